@@ -1,0 +1,9 @@
+pub mod Plant
+pub mod Numbers
+pub mod Refusals
+pub mod Validity
+pub mod Checked
+pub mod Model
+pub mod Twin
+pub mod Theorems
+pub mod Worked
