@@ -14,7 +14,7 @@ use Rattle.plant.specs.declared.lent.Plant.{Plant as Lent}
 use Rattle.plant.specs.declared.parts.Arrow.{Arrow}
 use Rattle.plant.specs.declared.parts.Event.{Event}
 use Rattle.plant.specs.declared.parts.Step.{Step}
-use Rattle.plant.specs.Model.{model, event-count, event-of, step-of, steps, no-arrow, no-step, Step-at}
+use Rattle.plant.specs.Model.{model, event-count, event-of, step-of, steps, no-arrow, no-step, Arrow-at, Step-at}
 use Rattle.plant.specs.Numbers.{arrows-in, plant-in}
 use Rattle.plant.specs.Twin.{Goes}
 use Rattle.plant.specs.Validity.{Fits, Valid}
@@ -38,13 +38,16 @@ module _ (p : Lent) where
   unfolding plant-in
   arrow-count = length-threes (now (p .arrows))
 
-  pub arrow-read : (i : ℕ) → i < length (now (p .arrows)) / 3 → (i < length (model p .arrows)) × (three (now (p .arrows)) (3 * i) ≡ getD (model p .arrows) i no-arrow)
-  unfolding plant-in
-  arrow-read i h = (omega (arith, length-threes (now (p .arrows))), three-at (now (p .arrows)) i (3 * i) refl (omega arith))
-
   pub arrow-fits : (i : ℕ) → i < length (model p .arrows) → Fits (p .states) (event-count p) (getD (model p .arrows) i no-arrow)
   unfolding plant-in
   arrow-fits i h = all-getD (Fits (p .states) (event-count p)) (arrows-in (now (p .arrows))) i no-arrow h (valid .fits)
+
+  pub arrow-read : (i : ℕ) → i < length (now (p .arrows)) / 3 → Arrow-at p i (three (now (p .arrows)) (3 * i))
+  unfolding plant-in
+  arrow-read i h =
+      let there : i < length (model p .arrows) = omega (arith, arrow-count) in
+      let is = three-at (now (p .arrows)) i (3 * i) refl (omega arith) in
+      record { there = there; is = is; fits = subst (Fits (p .states) (event-count p)) (sym is) (arrow-fits i there) }
 
   pub step-count : length (steps p) ≡ length (model p .arrows)
   unfolding steps
@@ -60,15 +63,12 @@ module _ (p : Lent) where
   }
 
   -- an arrow and its event, put together
-  pub step-made : (i : ℕ) (a : Arrow) (v : Event) → (i < length (model p .arrows)) × (a ≡ getD (model p .arrows) i no-arrow) → v ≡ event-of (model p) (a .event)
+  pub step-made : (i : ℕ) (a : Arrow) (v : Event) → Arrow-at p i a → v ≡ event-of (model p) (a .event)
       → Step-at p i (record { from = a .from; event = a .event; sign = v .sign; fault = v .fault; to = a .to })
-  step-made i a v (h, e) q =
+  step-made i a v at q =
+      let e = at .is in
       let same : _≡_ {A = Step} (step-of (model p) (getD (model p .arrows) i no-arrow)) (record { from = a .from; event = a .event; sign = v .sign; fault = v .fault; to = a .to }) = simp (q, e) in
-      subst (Step-at p i) same (step-read i h)
-
-  -- the event of an arrow is there
-  pub event-there : (i : ℕ) (a : Arrow) → (i < length (model p .arrows)) × (a ≡ getD (model p .arrows) i no-arrow) → a .event < event-count p
-  event-there i a (h, e) = rw e (arrow-fits i h .event)
+      subst (Step-at p i) same (step-read i (at .there))
 
   -- a step that was read is one of the plant's
   pub step-goes : {i : ℕ} {s : Step} → Step-at p i s → Goes (model p) (s .event) (s .from) (s .to) × (s .sign ≡ model p .shows (s .event)) × (s .fault ≡ model p .fault (s .event))

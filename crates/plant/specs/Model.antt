@@ -11,7 +11,8 @@ use Rattle.plant.specs.declared.parts.Arrow.{Arrow}
 use Rattle.plant.specs.declared.parts.Event.{Event}
 use Rattle.plant.specs.declared.parts.Step.{Step}
 use Rattle.plant.specs.Plant.{Plant}
-use Rattle.plant.specs.Numbers.{arrows-in, plant-in}
+use Rattle.plant.specs.Numbers.{plant-in}
+use Rattle.plant.specs.Validity.{Fits}
 
 abbrev pub model : Lent → Plant
 model p = plant-in (now (p .arrows)) (now (p .events))
@@ -36,6 +37,17 @@ no-arrow = record { from = 0; event = 0; to = 0 }
 
 abbrev pub no-step : Step
 no-step = record { from = 0; event = 0; sign = 0; fault = false; to = 0 }
+
+-- a is arrow i, and lies between states and events that are there
+pub record Arrow-at (p : Lent) (i : ℕ) (a : Arrow) : Type 0 where
+  pub there : i < length (model p .arrows)
+  pub is : a ≡ getD (model p .arrows) i no-arrow
+  pub fits : Fits (p .states) (event-count p) a
+
+-- v is event e
+pub record Event-at (p : Lent) (e : ℕ) (v : Event) : Type 0 where
+  pub there : e < event-count p
+  pub is : v ≡ event-of (model p) e
 
 -- s is step i, and goes between states that are there
 pub record Step-at (p : Lent) (i : ℕ) (s : Step) : Type 0 where

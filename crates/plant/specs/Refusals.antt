@@ -9,18 +9,20 @@ use Rattle.std.specs.Options.{mapped}
 use Rattle.std.specs.declared.option.Option.{Option}
 use Rattle.std.specs.declared.option.Option.the-variants.{Some, None}
 use Rattle.plant.specs.declared.parts.Refusal.{Refusal}
-use Rattle.plant.specs.declared.parts.Refusal.the-variants.{States, Events, Arrows}
+use Rattle.plant.specs.declared.parts.Refusal.the-variants.{States, Events, Arrows, Memory}
 
 -- each case's number, and the place that it names
 abbrev pub number-of : Refusal → ℕ
 number-of (States k) = 1
 number-of (Events k) = 2
 number-of (Arrows k) = 3
+number-of (Memory k) = 5
 
 abbrev pub place-of : Refusal → ℕ
 place-of (States k) = k
 place-of (Events k) = k
 place-of (Arrows k) = k
+place-of (Memory k) = k
 
 -- the first of two refusals that there is
 abbrev pub or-else : Option Refusal → Option Refusal → Option Refusal

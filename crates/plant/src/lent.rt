@@ -2,6 +2,7 @@
 ghost use denote.Ref.{now};
 ghost use mathlib.Core.Bool.{false};
 ghost use mathlib.Core.Path.{_≡_};
+ghost use Prim.Native.Nat.{_≤_};
 ghost use Rattle.std.specs.Options.{isSome};
 ghost use Rattle.plant.specs.Refusals.{refusal};
 
@@ -15,5 +16,7 @@ pub struct Plant<'a> {
     states: u64,
     arrows: &'a [u16],
     events: &'a [u16],
+    ghost some: { 1 ≤ states },
+    ghost few: { states ≤ 32 },
     ghost valid: { isSome (refusal states (now arrows) (now events)) ≡ false },
 }

@@ -1,6 +1,8 @@
 // Plants: what they are, which numbers make one, and what holds of every one.
 mod lent;
 mod parts;
+#[cfg(test)]
+mod tests;
 mod theorems;
 
 pub use lent::Plant;

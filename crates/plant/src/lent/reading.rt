@@ -1,10 +1,11 @@
 // What a plant is asked: how large it is, and its arrows and events one by one.
 ghost use mathlib.Core.Path.{_≡_};
-ghost use Prim.Native.Nat.{ℕ, _<_, _≤_};
+ghost use Prim.Native.Nat.{ℕ, _/_, _<_, _≤_};
 ghost use lib.ListN.{length, getD};
 ghost use Rattle.std.specs.Options.{Cases};
 ghost use Rattle.std.specs.declared.option.Option.the-variants.{None};
-ghost use Rattle.plant.specs.Model.{Step-at, event-count, event-of, model, no-arrow, steps};
+ghost use Rattle.plant.specs.Model.{Arrow-at, Event-at, Step-at, event-count, model, steps};
+ghost use Rattle.plant.specs.Numbers.{arrows-in};
 ghost use Rattle.plant.specs.Refusals.{refusal};
 use super::Plant;
 use crate::parts::Arrow;
@@ -24,6 +25,7 @@ impl<'a> Plant<'a> {
         }
     }
 
+    // How many states it has: 1 to 32.
     pub fn states(self) -> u64
         ensures value { λ r. ⌜ r ≡ self .entry .states ⌝ }
         ensures some { λ r. ⌜ 1 ≤ r ⌝ }
@@ -41,48 +43,72 @@ impl<'a> Plant<'a> {
     pub fn arrow_count(self) -> usize
         ensures { λ r. ⌜ r ≡ length (model (self .entry) .arrows) ⌝ }
     {
-        self.arrows.len() / 3
+        count_arrows(self)
     }
 
     // Arrow `i`, if there are as many.
     pub fn arrow(self, i: usize) -> Option<Arrow>
-        ensures { λ r. ⌜ Cases r (length (model (self .entry) .arrows) ≤ i) (λ a. (i < length (model (self .entry) .arrows)) × (a ≡ getD (model (self .entry) .arrows) i no-arrow)) ⌝ }
+        ensures { λ r. ⌜ Cases r (length (model (self .entry) .arrows) ≤ i) (Arrow-at (self .entry) i) ⌝ }
     {
-        if i >= self.arrows.len() / 3 {
-            return None;
-        }
-        Some(Arrow {
-            from: self.arrows[3 * i],
-            event: self.arrows[3 * i + 1],
-            to: self.arrows[3 * i + 2],
-        })
+        arrow_at(self, i)
     }
 
     // Event `e`, if there are as many.
     pub fn event(self, e: usize) -> Option<Event>
-        ensures { λ r. ⌜ Cases r (event-count (self .entry) ≤ e) (λ v. (e < event-count (self .entry)) × (v ≡ event-of (model (self .entry)) e)) ⌝ }
+        ensures { λ r. ⌜ Cases r (event-count (self .entry) ≤ e) (Event-at (self .entry) e) ⌝ }
     {
-        if e >= self.events.len() / 2 {
-            return None;
-        }
-        Some(Event {
-            sign: self.events[2 * e] as u8,
-            fault: self.events[2 * e + 1] == 1,
-        })
+        event_at(self, e)
     }
 
     // Arrow `i` with what its event shows and is, if there are as many arrows.
     pub fn step(self, i: usize) -> Option<Step>
         ensures { λ r. ⌜ Cases r (length (steps (self .entry)) ≤ i) (Step-at (self .entry) i) ⌝ }
     {
-        let arrow = self.arrow(i)?;
-        let event = self.event(arrow.event as usize)?;
-        Some(Step {
-            from: arrow.from,
-            event: arrow.event,
-            sign: event.sign,
-            fault: event.fault,
-            to: arrow.to,
-        })
+        step_at(self, i)
     }
+}
+
+fn count_arrows(plant: Plant) -> usize
+    ensures { λ r. ⌜ r ≡ length (model (plant .entry) .arrows) ⌝ }
+{
+    plant.arrows.len() / 3
+}
+
+fn arrow_at(plant: Plant, i: usize) -> Option<Arrow>
+    ensures { λ r. ⌜ Cases r (length (model (plant .entry) .arrows) ≤ i) (Arrow-at (plant .entry) i) ⌝ }
+{
+    if i >= plant.arrows.len() / 3 {
+        return None;
+    }
+    Some(Arrow {
+        from: plant.arrows[3 * i],
+        event: plant.arrows[3 * i + 1],
+        to: plant.arrows[3 * i + 2],
+    })
+}
+
+fn event_at(plant: Plant, e: usize) -> Option<Event>
+    ensures { λ r. ⌜ Cases r (event-count (plant .entry) ≤ e) (Event-at (plant .entry) e) ⌝ }
+{
+    if e >= plant.events.len() / 2 {
+        return None;
+    }
+    Some(Event {
+        sign: plant.events[2 * e] as u8,
+        fault: plant.events[2 * e + 1] == 1,
+    })
+}
+
+fn step_at(plant: Plant, i: usize) -> Option<Step>
+    ensures { λ r. ⌜ Cases r (length (steps (plant .entry)) ≤ i) (Step-at (plant .entry) i) ⌝ }
+{
+    let arrow = plant.arrow(i)?;
+    let event = plant.event(arrow.event as usize)?;
+    Some(Step {
+        from: arrow.from,
+        event: arrow.event,
+        sign: event.sign,
+        fault: event.fault,
+        to: arrow.to,
+    })
 }
