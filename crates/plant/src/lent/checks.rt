@@ -7,6 +7,14 @@ ghost use Rattle.plant.specs.Checked.{checked};
 ghost use Rattle.plant.specs.Refusals.{first-over, states-refusal, events-refusal, arrows-refusal, refusal};
 use crate::parts::Refusal;
 
+const MOST_STATES: u64 = 32;
+
+// 64 events, two numbers each.
+const MOST_EVENT_NUMBERS: usize = 128;
+
+// 1,024 arrows, three numbers each.
+const MOST_ARROW_NUMBERS: usize = 3072;
+
 // The index of the first number that is not below the limit of its place; the limits recur.
 fn first_over(numbers: &[u16], limits: &[u64]) -> Option<u64>
     requires { ⌜ 0 < length (now limits) ⌝ }
@@ -29,7 +37,7 @@ fn first_over(numbers: &[u16], limits: &[u64]) -> Option<u64>
 fn check_states(states: u64) -> Result<(), Refusal>
     ensures { λ r. ⌜ r ≡ checked (states-refusal states) ⌝ }
 {
-    if states < 1 || states > 32 {
+    if states < 1 || states > MOST_STATES {
         return Err(Refusal::States(states));
     }
     Ok(())
@@ -39,8 +47,8 @@ fn check_states(states: u64) -> Result<(), Refusal>
 fn check_events(events: &[u16]) -> Result<(), Refusal>
     ensures { λ r. ⌜ r ≡ checked (events-refusal (now (events .entry))) ⌝ }
 {
-    if events.len() > 128 {
-        return Err(Refusal::Events(128));
+    if events.len() > MOST_EVENT_NUMBERS {
+        return Err(Refusal::Events(MOST_EVENT_NUMBERS as u64));
     }
     if events.len() % 2 != 0 {
         return Err(Refusal::Events(events.len() as u64 - 1));
@@ -59,8 +67,8 @@ fn check_arrows(states: u64, arrows: &[u16], events: &[u16]) -> Result<(), Refus
     if rest != 0 {
         return Err(Refusal::Arrows((arrows.len() - rest) as u64));
     }
-    if arrows.len() > 3072 {
-        return Err(Refusal::Arrows(3072));
+    if arrows.len() > MOST_ARROW_NUMBERS {
+        return Err(Refusal::Arrows(MOST_ARROW_NUMBERS as u64));
     }
     match first_over(arrows, &[states, events.len() as u64 / 2, states]) {
         Some(place) => Err(Refusal::Arrows(place)),

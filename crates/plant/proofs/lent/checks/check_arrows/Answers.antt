@@ -3,9 +3,9 @@ use Rattle.std.proofs.shelf.Ways.{tells}
 use Rattle.plant.specs.Refusals.{arrows-refusal}
 use Rattle.plant.proofs.lent.checks.check_arrows.Needs as need
 
-pub returns-then-arrows-gt3072 : need.returns-then-arrows-gt3072
+pub returns-then-arrows-gt-MOST-ARROW-NUMBERS : need.returns-then-arrows-gt-MOST-ARROW-NUMBERS
 unfolding arrows-refusal
-returns-then-arrows-gt3072 c = grind (arith, tells)
+returns-then-arrows-gt-MOST-ARROW-NUMBERS c = grind (arith, tells)
 
 pub returns-then-rest-ne0 : need.returns-then-rest-ne0
 unfolding arrows-refusal

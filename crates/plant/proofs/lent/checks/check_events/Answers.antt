@@ -3,9 +3,9 @@ use Rattle.std.proofs.shelf.Ways.{tells}
 use Rattle.plant.specs.Refusals.{events-refusal}
 use Rattle.plant.proofs.lent.checks.check_events.Needs as need
 
-pub returns-then-events-gt128 : need.returns-then-events-gt128
+pub returns-then-events-gt-MOST-EVENT-NUMBERS : need.returns-then-events-gt-MOST-EVENT-NUMBERS
 unfolding events-refusal
-returns-then-events-gt128 c = grind (arith, tells)
+returns-then-events-gt-MOST-EVENT-NUMBERS c = grind (arith, tells)
 
 pub returns-then-events-ne0 : need.returns-then-events-ne0
 unfolding events-refusal
