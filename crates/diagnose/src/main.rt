@@ -1,64 +1,46 @@
-// Reads the arguments and prints what the libraries answer.
+// Reads the arguments and the signs, and prints what the libraries answer.
 mod worked;
 
+use command::Unread;
+use command::read_sign;
+use observer::Follower;
+use observer::Word;
 use plant::Plant;
 use plant::Refusal;
 use plant::check;
 use std::env;
+use std::env::Args;
 use std::error::AnyError;
+use std::io::Read;
 use worked::Drawing;
 
-const USAGE: &str =
-    "usage: diagnose check NAME, NAME being told, untold, later, sound, still, brief or broken; diagnose help";
+const USAGE: &str = "usage:
+  diagnose check NAME             how many states, events and arrows the plant has
+  diagnose follow NAME [SIGN...]  the word after each sign; with none given, signs from standard input, each word at once
+  diagnose help
+NAME: told, untold, later, sound, still, brief, broken";
+
+// A sign was turned away, and its line said so among the words.
+const SOME_TURNED_AWAY: &str = "some signs were turned away";
+
+fn turned_away(rt: &LibcRuntime, refusal: Refusal) -> AnyError {
+    let number = refusal.number();
+    let place = refusal.place();
+    match format!(rt.alloc(), "turned away: {number} at {place}") {
+        Ok(text) => text.into(),
+        Err(e) => e.into(),
+    }
+}
 
 // How large a plant is, or why its numbers make none.
 fn print_check(rt: &LibcRuntime, drawing: Drawing) -> Result<(), AnyError> {
-    match check(drawing.states, drawing.arrows, drawing.events) {
-        Ok(()) => {
-            let plant = Plant::new(drawing.states, drawing.arrows, drawing.events);
-            let states = plant.states();
-            let events = plant.event_count();
-            let arrows = plant.arrow_count();
-            println!(rt, "{states} states, {events} events, {arrows} arrows")?;
-            Ok(())
-        }
-        Err(refusal) => turned_away(rt, refusal),
+    if let Err(refusal) = check(drawing.states, drawing.arrows, drawing.events) {
+        return Err(turned_away(rt, refusal));
     }
-}
-
-fn turned_away(rt: &LibcRuntime, refusal: Refusal) -> Result<(), AnyError> {
-    let number = refusal.number();
-    let place = refusal.place();
-    let text = format!(rt.alloc(), "turned away: {number} at {place}")?;
-    Err(text.into())
-}
-
-fn run(rt: &LibcRuntime) -> Result<(), AnyError> {
-    let mut args = env::args(rt)?;
-    let _program = args.next();
-    let verb = args.next();
-    match verb.as_deref() {
-        Some("help") => {
-            println!(rt, "{USAGE}")?;
-            Ok(())
-        }
-        Some("check") => {
-            let Some(name) = args.next() else {
-                return Err(USAGE.into());
-            };
-            match worked::find(name.as_str()) {
-                Some(drawing) => print_check(rt, drawing),
-                None => Err(USAGE.into()),
-            }
-        }
-        _ => Err(USAGE.into()),
-    }
-}
-
-fn main(rt: LibcRuntime) -> Result<(), AnyError> {
-    let answer = run(&rt);
-    if let Err(e) = &answer {
-        let _ = eprintln!(rt, "{e}");
-    }
-    answer
+    let plant = Plant::new(drawing.states, drawing.arrows, drawing.events);
+    let states = plant.states();
+    let events = plant.event_count();
+    let arrows = plant.arrow_count();
+    println!(rt, "{states} states, {events} events, {arrows} arrows")?;
+    Ok(())
 }

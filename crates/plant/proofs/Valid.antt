@@ -28,7 +28,7 @@ some-none : {A : Type 0} {x : A} → Some x ≡ None → ⊥
 some-none e = let z : _≡_ {A = ℕ} 0 1 = cc in absurd (omega arith)
 
 -- none at all if none of two
-or-else-none : (a b : Option Refusal) → or-else a b ≡ None → (a ≡ None) × (b ≡ None)
+pub or-else-none : (a b : Option Refusal) → or-else a b ≡ None → (a ≡ None) × (b ≡ None)
 or-else-none None b e = (refl, e)
 or-else-none (Some r) b e = absurd (some-none e)
 
@@ -65,7 +65,7 @@ under-none limits i (x ∷ xs) under =
     rw (lt-ltb x (getD limits (i % length limits) 0) here) (under-none limits (suc i) xs (under-tail limits i x xs under))
 
 -- a rule that answers none has passed its test
-passed : {A : Type 0} (b : Bool) (x : Option A) (r : A) → cond b x (Some r) ≡ None → (b ≡ true) × (x ≡ None)
+pub passed : {A : Type 0} (b : Bool) (x : Option A) (r : A) → cond b x (Some r) ≡ None → (b ≡ true) × (x ≡ None)
 passed true x r e = (refl, e)
 passed false x r e = absurd (some-none e)
 

@@ -1,0 +1,8 @@
+// Judging a plant: every fault comes out after a number of events, or two runs hide one.
+mod checks;
+mod rows;
+mod verdict;
+
+pub use checks::check;
+pub use verdict::Verdict;
+pub use verdict::VerdictPartialEq;
