@@ -1,2 +1,3 @@
 mod Lending
 mod Laying
+mod Rooms
