@@ -40,6 +40,7 @@ pub impl fmt::Display for Line as LineDisplay {
 }
 
 // A plant that is followed, and how many words have come.
+#[derive(Drop)]
 pub struct Listener<'a> {
     follower: Follower<'a>,
     place: u64,

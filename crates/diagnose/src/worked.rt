@@ -5,15 +5,19 @@ pub struct Drawing {
     pub states: u64,
     pub arrows: &'static [u16],
     pub events: &'static [u16],
+    pub names: &'static [&'static str],
 }
 
 const EVENTS: &[u16] = &[0, 1, 1, 0, 2, 0];
+
+const NAMES: &[&str] = &["break", "one", "two"];
 
 fn with_events(states: u64, arrows: &'static [u16]) -> Option<Drawing> {
     Some(Drawing {
         states,
         arrows,
         events: EVENTS,
+        names: NAMES,
     })
 }
 

@@ -10,12 +10,11 @@ use Rattle.std.specs.declared.option.Option.the-variants.{Some, None}
 use Rattle.std.specs.declared.result.Result.the-variants.{Ok, Err}
 use Rattle.std.proofs.shelf.Tests.{eqb-true, leb-true}
 use Rattle.plant.specs.declared.parts.Refusal.{Refusal}
-use Rattle.plant.specs.declared.parts.Refusal.the-variants.{States, Events, Arrows, Room, Memory}
 use Rattle.plant.specs.Checked.{checked}
 use Rattle.plant.specs.Numbers.{plant-in}
 use Rattle.plant.specs.Plant.{Plant}
 use Rattle.plant.specs.Refusals.{number-of, refusal}
-use Rattle.plant.proofs.Valid.{or-else-none, passed}
+use Rattle.plant.proofs.Valid.{or-else-none, passed, numbered}
 use Rattle.observer.specs.declared.words.Word.{Word}
 use Rattle.observer.specs.declared.words.Word.the-variants.{Refused}
 use Rattle.observer.specs.Entry.{Word-says}
@@ -44,14 +43,6 @@ module _ (n : ℕ) (xs es m : List ℕ) (o : ℕ) where
         sized = eqb-true (length m) (2 * n) (passed (eqb (length m) (2 * n)) _ _ (memory .0) .0);
         sign = leb-true o 255 (passed (leb o 255) _ _ (memory .1) .0);
       }
-
--- rules are numbered from 1
-numbered : (r : Refusal) → 1 ≤ number-of r
-numbered (States k) = omega arith
-numbered (Events k) = omega arith
-numbered (Arrows k) = omega arith
-numbered (Room k) = omega arith
-numbered (Memory k) = omega arith
 
 -- a refusal says its number and leaves the memory
 refused-says : (n : ℕ) (p : Plant) (m : List ℕ) (o k : ℕ) → 1 ≤ k → Word-says k n p m o (Refused k) m

@@ -17,10 +17,10 @@ use Rattle.std.proofs.shelf.Tests.{ltb-true, ltb-false, lt-ltb, le-ltb, eqb-tru
 use Rattle.std.proofs.shelf.Ways.{tells}
 use Rattle.plant.specs.declared.parts.Arrow.{Arrow}
 use Rattle.plant.specs.declared.parts.Refusal.{Refusal}
-use Rattle.plant.specs.declared.parts.Refusal.the-variants.{Events, Arrows}
+use Rattle.plant.specs.declared.parts.Refusal.the-variants.{States, Events, Arrows, Room, Memory, Text}
 use Rattle.plant.specs.Model.{no-arrow}
 use Rattle.plant.specs.Numbers.{arrows-in}
-use Rattle.plant.specs.Refusals.{or-else, first-over, states-refusal, events-refusal, arrows-refusal, refusal}
+use Rattle.plant.specs.Refusals.{number-of, or-else, first-over, states-refusal, events-refusal, arrows-refusal, refusal}
 use Rattle.plant.specs.Validity.{Fits, Valid, Refused-or-valid}
 use Rattle.plant.proofs.Threes.{three, three-at, length-threes}
 
@@ -215,3 +215,12 @@ lent-valid n xs es e = refused-or-valid n xs es .0 (none (refusal n xs es) e)
     none : (o : Option Refusal) → isSome o ≡ false → o ≡ None
     none None e = refl
     none (Some r) e = absurd (true≢false e)
+
+-- rules are numbered from 1
+pub numbered : (r : Refusal) → 1 ≤ number-of r
+numbered (States k) = omega arith
+numbered (Events k) = omega arith
+numbered (Arrows k) = omega arith
+numbered (Room k) = omega arith
+numbered (Memory k) = omega arith
+numbered (Text k) = omega arith

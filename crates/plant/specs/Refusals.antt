@@ -9,7 +9,7 @@ use Rattle.std.specs.Options.{mapped}
 use Rattle.std.specs.declared.option.Option.{Option}
 use Rattle.std.specs.declared.option.Option.the-variants.{Some, None}
 use Rattle.plant.specs.declared.parts.Refusal.{Refusal}
-use Rattle.plant.specs.declared.parts.Refusal.the-variants.{States, Events, Arrows, Room, Memory}
+use Rattle.plant.specs.declared.parts.Refusal.the-variants.{States, Events, Arrows, Room, Memory, Text}
 
 -- each case's number, and the place that it names
 abbrev pub number-of : Refusal → ℕ
@@ -18,6 +18,7 @@ number-of (Events k) = 2
 number-of (Arrows k) = 3
 number-of (Room k) = 4
 number-of (Memory k) = 5
+number-of (Text k) = 6
 
 abbrev pub place-of : Refusal → ℕ
 place-of (States k) = k
@@ -25,6 +26,7 @@ place-of (Events k) = k
 place-of (Arrows k) = k
 place-of (Room k) = k
 place-of (Memory k) = k
+place-of (Text k) = k
 
 -- the first of two refusals that there is
 abbrev pub or-else : Option Refusal → Option Refusal → Option Refusal
