@@ -18,7 +18,12 @@ fn check_room(states: u64, room: u64) -> Result<(), Refusal>
 }
 
 // Whether these numbers make a plant and the room is large enough: an error is the first rule that turns them away.
-pub fn check<'a>(states: u64, arrows: &'a [u16], events: &'a [u16], room: u64) -> Result<(), Refusal>
+pub fn check<'a>(
+    states: u64,
+    arrows: &'a [u16],
+    events: &'a [u16],
+    room: u64,
+) -> Result<(), Refusal>
     ensures { λ r. ⌜ r ≡ checked (judge-refusal states (now (arrows .entry)) (now (events .entry)) room) ⌝ }
 {
     plant::check(states, arrows, events)?;

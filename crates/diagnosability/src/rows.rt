@@ -36,6 +36,17 @@ pub fn lay(plant: Plant, knot: Pair, room: &mut [u16]) -> Verdict
 {
     let start = Pair { left: 0, right: 0 };
     let runs = found(plant, start, knot, Mark::Fault, room);
-    let rounds = found(plant, knot, knot, Mark::Any, &mut room[runs.left + runs.right..]);
-    Verdict::Hidden(runs.left as u64, runs.right as u64, rounds.left as u64, rounds.right as u64)
+    let rounds = found(
+        plant,
+        knot,
+        knot,
+        Mark::Any,
+        &mut room[runs.left + runs.right..],
+    );
+    Verdict::Hidden(
+        runs.left as u64,
+        runs.right as u64,
+        rounds.left as u64,
+        rounds.right as u64,
+    )
 }

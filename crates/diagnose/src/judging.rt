@@ -32,25 +32,49 @@ fn part(room: &[u16], start: u64, many: u64) -> &[u16] {
     &room[start..end]
 }
 
-fn hidden(heap: Global, drawing: Drawing, room: &[u16], lengths: (u64, u64, u64, u64)) -> Result<String, AllocError> {
+fn hidden(
+    heap: Global,
+    drawing: Drawing,
+    room: &[u16],
+    lengths: (u64, u64, u64, u64),
+) -> Result<String, AllocError> {
     let (a, b, c, d) = lengths;
     let first = row(heap, drawing.names, part(room, 0, a))?;
     let second = row(heap, drawing.names, part(room, a, b))?;
     let round = row(heap, drawing.names, part(room, a.saturating_add(b), c))?;
-    let other = row(heap, drawing.names, part(room, a.saturating_add(b).saturating_add(c), d))?;
-    format!(heap, "hidden:{first}; and{second}; round:{round}; and{other}")
+    let other = row(
+        heap,
+        drawing.names,
+        part(room, a.saturating_add(b).saturating_add(c), d),
+    )?;
+    format!(
+        heap,
+        "hidden:{first}; and{second}; round:{round}; and{other}"
+    )
 }
 
 // What is judged of a plant, or why it is turned away.
 fn sentence(rt: &LibcRuntime, drawing: Drawing) -> Result<Result<String, String>, AnyError> {
     let heap = rt.alloc();
     let mut room = vec![in heap; 0u16; 8192]?;
-    if let Err(refusal) = check(drawing.states, drawing.arrows, drawing.events, room.len() as u64) {
+    if let Err(refusal) = check(
+        drawing.states,
+        drawing.arrows,
+        drawing.events,
+        room.len() as u64,
+    ) {
         return Ok(Err(turned_away(rt, refusal)?));
     }
-    match judge(drawing.states, drawing.arrows, drawing.events, room.as_mut_slice()) {
+    match judge(
+        drawing.states,
+        drawing.arrows,
+        drawing.events,
+        room.as_mut_slice(),
+    ) {
         Verdict::Out(k) => Ok(Ok(format!(heap, "every fault comes out in {k} events")?)),
-        Verdict::Hidden(a, b, c, d) => Ok(Ok(hidden(heap, drawing, room.as_slice(), (a, b, c, d))?)),
+        Verdict::Hidden(a, b, c, d) => Ok(Ok(
+            hidden(heap, drawing, room.as_slice(), (a, b, c, d))?,
+        )),
         Verdict::Turned(number) => Ok(Err(format!(heap, "turned away: {number}")?)),
     }
 }

@@ -19,7 +19,7 @@ pub struct Follower<'a> {
 impl<'a> Follower<'a> {
     // Before any sign.
     pub fn new(plant: Plant<'a>) -> Follower<'a>
-        ensures plant { λ r. ⌜ model (r .plant) ≡ model (plant .entry) ⌝ }
+        ensures plant { λ r. ⌜ r .plant ≡ plant .entry ⌝ }
         ensures right { λ r. ⌜ Right (model (plant .entry)) [] (r .memory) ⌝ }
     {
         Follower {

@@ -20,7 +20,13 @@ fn code(word: Word) -> u64 {
 
 // One sign through the entry, which checks the plant.
 #[unsafe(no_mangle)]
-pub extern "C" fn timed_follow(states: u64, arrows: &[u16], events: &[u16], memory: &mut [u8], sign: u64) -> u64 {
+pub extern "C" fn timed_follow(
+    states: u64,
+    arrows: &[u16],
+    events: &[u16],
+    memory: &mut [u8],
+    sign: u64,
+) -> u64 {
     code(follow(states, arrows, events, memory, sign))
 }
 
@@ -48,7 +54,12 @@ pub extern "C" fn timed_signs(states: u64, arrows: &[u16], events: &[u16], signs
 
 // A verdict as a number: the number of events, or 1,000,000 and more where a fault hides.
 #[unsafe(no_mangle)]
-pub extern "C" fn timed_judge(states: u64, arrows: &[u16], events: &[u16], room: &mut [u16]) -> u64 {
+pub extern "C" fn timed_judge(
+    states: u64,
+    arrows: &[u16],
+    events: &[u16],
+    room: &mut [u16],
+) -> u64 {
     match judge(states, arrows, events, room) {
         Verdict::Out(events) => events,
         Verdict::Hidden(_, _, _, _) => 1_000_000,
