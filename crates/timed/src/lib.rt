@@ -1,4 +1,4 @@
-// The entries as functions that a C or Rust program can link, for measuring them beside plain Rust (bench/run).
+// The entries as functions that a Rust program can link, for measuring them beside plain Rust (bench/run). They promise nothing of their own: bench/run compares each answer with plain Rust's before it measures.
 use diagnosability::Verdict;
 use diagnosability::judge;
 use observer::Follower;
