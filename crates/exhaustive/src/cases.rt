@@ -188,8 +188,8 @@ fn compare_size(
     let (states, events, arrows, refusal) = size;
     let plant = Plant {
         states,
-        arrows: zeros.get(0..3 * arrows).unwrap_or(zeros),
-        events: zeros.get(0..2 * events).unwrap_or(zeros),
+        arrows: zeros.get(0..arrows.saturating_mul(3)).unwrap_or(zeros),
+        events: zeros.get(0..events.saturating_mul(2)).unwrap_or(zeros),
     };
     let memory = vec![in heap; 0; 2 * usize::from(states)]?;
     compare_judge(plant, first_part(room, least_room(states)), refusal)?;
