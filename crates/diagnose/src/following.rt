@@ -7,9 +7,6 @@ use std::env::Args;
 use std::error::AnyError;
 use std::io::Read;
 
-// Said at the end where a line among the words turned a sign away.
-const SOME_TURNED_AWAY: &str = "some signs were turned away";
-
 // Prints the line for one word; whether it was a sign.
 fn print_line(rt: &LibcRuntime, listener: &mut Listener, word: &[u8]) -> Result<bool, AnyError> {
     let line = listener.hear(word);
@@ -20,15 +17,8 @@ fn print_line(rt: &LibcRuntime, listener: &mut Listener, word: &[u8]) -> Result<
     }
 }
 
-fn ended(all_taken: bool) -> Result<(), AnyError> {
-    if all_taken {
-        Ok(())
-    } else {
-        Err(SOME_TURNED_AWAY.into())
-    }
-}
-
-pub(crate) fn follow_words(rt: &LibcRuntime, plant: Plant, words: Args) -> Result<(), AnyError> {
+// Whether every word was a sign.
+pub(crate) fn follow_words(rt: &LibcRuntime, plant: Plant, words: Args) -> Result<bool, AnyError> {
     let mut listener = Listener::new(plant);
     let mut all_taken = true;
     for word in words {
@@ -36,15 +26,15 @@ pub(crate) fn follow_words(rt: &LibcRuntime, plant: Plant, words: Args) -> Resul
             all_taken = false;
         }
     }
-    ended(all_taken)
+    Ok(all_taken)
 }
 
 fn is_blank(b: u8) -> bool {
     b == b' ' || b == b'\t' || b == b'\r' || b == b'\n'
 }
 
-// Byte by byte, so that each word is answered as soon as the blank behind it has come.
-pub(crate) fn follow_input(rt: &LibcRuntime, plant: Plant) -> Result<(), AnyError> {
+// The same for words from standard input, read byte by byte, so that each word is answered as soon as the blank behind it has come.
+pub(crate) fn follow_input(rt: &LibcRuntime, plant: Plant) -> Result<bool, AnyError> {
     let mut listener = Listener::new(plant);
     let mut input = rt.stdin();
     let mut word = Vec::new(rt.alloc());
@@ -66,5 +56,5 @@ pub(crate) fn follow_input(rt: &LibcRuntime, plant: Plant) -> Result<(), AnyErro
             break;
         }
     }
-    ended(all_taken)
+    Ok(all_taken)
 }

@@ -28,22 +28,28 @@ pub(crate) fn turned_away(rt: &LibcRuntime, refusal: Refusal) -> Result<String, 
     Ok(format!(rt.alloc(), "turned away: {number} at {place}")?)
 }
 
+// Says on standard error why something has no answer.
+fn refuse(rt: &LibcRuntime, text: &str) -> Result<bool, AnyError> {
+    eprintln!(rt, "{text}")?;
+    Ok(false)
+}
+
 // How large a plant is, or why its numbers make none.
-fn print_check(rt: &LibcRuntime, drawing: Drawing) -> Result<(), AnyError> {
+fn print_check(rt: &LibcRuntime, drawing: Drawing) -> Result<bool, AnyError> {
     if let Err(refusal) = check(drawing.states, drawing.arrows, drawing.events) {
-        return Err(turned_away(rt, refusal)?.into());
+        return refuse(rt, turned_away(rt, refusal)?.as_str());
     }
     let plant = Plant::new(drawing.states, drawing.arrows, drawing.events);
     let states = plant.states();
     let events = plant.event_count();
     let arrows = plant.arrow_count();
     println!(rt, "{states} states, {events} events, {arrows} arrows")?;
-    Ok(())
+    Ok(true)
 }
 
-fn follow(rt: &LibcRuntime, drawing: Drawing, signs: Args) -> Result<(), AnyError> {
+fn follow(rt: &LibcRuntime, drawing: Drawing, signs: Args) -> Result<bool, AnyError> {
     if let Err(refusal) = check(drawing.states, drawing.arrows, drawing.events) {
-        return Err(turned_away(rt, refusal)?.into());
+        return refuse(rt, turned_away(rt, refusal)?.as_str());
     }
     let plant = Plant::new(drawing.states, drawing.arrows, drawing.events);
     if signs.len() == 0 {
@@ -54,44 +60,46 @@ fn follow(rt: &LibcRuntime, drawing: Drawing, signs: Args) -> Result<(), AnyErro
 }
 
 // The built-in plant of the name that comes next.
-fn next_drawing(args: &mut Args) -> Result<Drawing, AnyError> {
-    let Some(name) = args.next() else {
-        return Err(USAGE.into());
-    };
-    match worked::find(name.as_str()) {
-        Some(drawing) => Ok(drawing),
-        None => Err(USAGE.into()),
-    }
+fn next_drawing(args: &mut Args) -> Option<Drawing> {
+    let name = args.next()?;
+    worked::find(name.as_str())
 }
 
-fn run(rt: &LibcRuntime) -> Result<(), AnyError> {
+// Does what is asked for; false where something was turned away, which has been said.
+fn run(rt: &LibcRuntime) -> Result<bool, AnyError> {
     let mut args = env::args(rt)?;
     let _program = args.next();
     let verb = args.next();
     match verb.as_deref() {
         Some("help") => {
             println!(rt, "{USAGE}")?;
-            Ok(())
+            Ok(true)
         }
-        Some("check") => print_check(rt, next_drawing(&mut args)?),
-        Some("follow") => {
-            let drawing = next_drawing(&mut args)?;
-            follow(rt, drawing, args)
-        }
+        Some("check") => match next_drawing(&mut args) {
+            Some(drawing) => print_check(rt, drawing),
+            None => refuse(rt, USAGE),
+        },
+        Some("follow") => match next_drawing(&mut args) {
+            Some(drawing) => follow(rt, drawing, args),
+            None => refuse(rt, USAGE),
+        },
         Some("judge") => {
             if args.len() == 0 {
-                return Err(USAGE.into());
+                return refuse(rt, USAGE);
             }
             judge_all(rt, args)
         }
-        _ => Err(USAGE.into()),
+        _ => refuse(rt, USAGE),
     }
 }
 
 fn main(rt: LibcRuntime) -> Result<(), AnyError> {
-    let answer = run(&rt);
-    if let Err(e) = &answer {
-        let _ = eprintln!(rt, "{e}");
+    match run(&rt) {
+        Ok(true) => Ok(()),
+        Ok(false) => Err("turned away".into()),
+        Err(e) => {
+            let _ = eprintln!(rt, "diagnose: {e}");
+            Err(e)
+        }
     }
-    answer
 }
