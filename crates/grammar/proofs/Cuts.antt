@@ -2,7 +2,7 @@
 use Rattle.std.proofs.Common.{◌≡◌, ℕ, zero, suc, ◌+◌, ◌-◌, ◌<◌, ◌≤◌, Bool, true, false, cond, not, List, [], ◌∷◌, ◌++◌, length, get_or, take, drop, IsUtf8, sym, refl, ap, ◌∙◌, subst, inl, inr, ⊎_elim, append_assoc, append-nil, one-add, arith, take-append-drop}
 use Rattle.std.specs.Str.{IsCharBoundary}
 use Rattle.std.specs.List.{prefix_len}
-use Rattle.std.proofs.lemmas.Bool.{cases_Bool, cases_lt, not_true, not_false}
+use Rattle.std.proofs.lemmas.Bool.{cases_Bool, cases_lt, not-true, not-false}
 use Rattle.std.proofs.lemmas.Str.{IsUtf8-drop, IsCharBoundary-end, IsCharBoundary-before_ascii, IsCharBoundary-after_ascii, IsCharBoundary-from_drop}
 use Rattle.std.proofs.lemmas.List.{nil_from_length}
 use Rattle.std.proofs.lemmas.List.Sums.{prefix_len-le-length}
@@ -35,7 +35,7 @@ stops p (b ∷ bs) = elim (cases_Bool (p b)) [ inl e ↦ rw (e, one-add) (stops 
 some_word : (w rest : List ℕ) → 0 < length w → Stops dark rest → words_from w rest ≡ w ∷ words rest
 some_word [] rest some s = absurd (omega arith)
 some_word (x ∷ w) [] some s = refl
-some_word (x ∷ w) (b ∷ rest) some s = let e = not_false (blank b) s in simp e
+some_word (x ∷ w) (b ∷ rest) some s = let e = not-false (blank b) s in simp e
 
 -- the text d begins with a word
 pub first_word : (d : List ℕ) → 0 < length d → Stops blank d → words d ≡ take (prefix_len dark d) d ∷ words (drop (prefix_len dark d) d)

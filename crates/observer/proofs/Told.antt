@@ -1,6 +1,6 @@
 -- The word for what may be is what is known. Assumes nothing.
 use Rattle.std.proofs.Common.{◌≡◌, ℕ, ◌<◌, Bool, true, false, not, List, refl}
-use Rattle.std.proofs.lemmas.Bool.{both_ways, not_true as flip-true, not_false as flip-false}
+use Rattle.std.proofs.lemmas.Bool.{both_ways, not-true as flip-true, not-false as flip-false}
 use Rattle.sets.specs.Sets.{member}
 use Rattle.plant.specs.Plant.{Plant, bad, good, either, neither, May, Knows}
 use Rattle.observer.specs.declared.memory.Memory.{Memory}
@@ -32,9 +32,9 @@ unfolding May Comes
 right_said p os m w t right =
     tells_said p os w (tells_same (λ b k. let r = right.sound k.0 b k.1 in (r.0, k.0, r.1, r.2, r.3)) (λ b k. (k.1, right.complete k.1 b (k.0, k.2, k.3, k.4))) w t)
 
-not_true : (b : Bool) → (b ≡ true → ⊥) → b ≡ false
-not_true true h = absurd (h refl)
-not_true false h = refl
+not-true : (b : Bool) → (b ≡ true → ⊥) → b ≡ false
+not-true true h = absurd (h refl)
+not-true false h = refl
 
 -- the word for tests, and back
 pub word_tells : (P : Bool → Type 0) (g b : Bool) → (g ≡ true → P false) → (g ≡ false → P false → ⊥) → (b ≡ true → P true) → (b ≡ false → P true → ⊥) → Tells P (word_of g b)
@@ -46,10 +46,10 @@ word_tells P false false g g' b b' = (b' refl, g' refl)
 
 pub tells_word : (f : Bool → Bool) (w : Word) → Tells (λ b. f b ≡ true) w → w ≡ word_of (f false) (f true)
 unfolding Tells word_of
-tells_word f Bad t = rw (t.0, not_true (f false) t.1) refl
-tells_word f Good t = rw (t.0, not_true (f true) t.1) refl
+tells_word f Bad t = rw (t.0, not-true (f false) t.1) refl
+tells_word f Good t = rw (t.0, not-true (f true) t.1) refl
 tells_word f Either t = rw (t.0, t.1) refl
-tells_word f Neither t = rw (not_true (f true) t.0, not_true (f false) t.1) refl
+tells_word f Neither t = rw (not-true (f true) t.0, not-true (f false) t.1) refl
 tells_word f (Refused k) t = absurd t
 
 -- the word for two sets, by whether they are empty

@@ -1,7 +1,7 @@
 -- Nothing is turned away if and only if it fits. Assumes nothing.
 use Rattle.std.proofs.Common.{◌≡◌, ℕ, zero, suc, ◌+◌, ◌*◌, ◌/◌, ◌<◌, ◌≤◌, Bool, true, false, cond, not, ◌||◌, eqb, ltb, leb, List, [], ◌∷◌, length, get_or, take, Some, None, Ok, Option, sym, refl, ap, ◌∙◌, arith}
 use Rattle.std.specs.Option.{option_map}
-use Rattle.std.proofs.lemmas.Bool.{ltb-false, le-ltb, leb-false, lt-leb, eqb-true, eq-eqb, or_parts, or_from, not_false, not_from_true}
+use Rattle.std.proofs.lemmas.Bool.{ltb-false, le-ltb, leb-false, lt-leb, eqb-true, eq-eqb, or_parts, or_from, not-false, not_from_true}
 use Rattle.plant.specs.declared.parts.Refusal.{Refusal}
 use Rattle.plant.specs.declared.parts.Refusal.TheVariants.{Candidates}
 use Rattle.plant.specs.Checked.{checked}
@@ -41,7 +41,7 @@ module _ (es cs ps : List ℕ) (i : ℕ) where
       let a = or_parts (leb (length es / 2) (get_or cs i 0)) _ e in
       let b = or_parts (not (eqb (get_or es (2 * get_or cs i 0) 0) 0)) _ a.1 in
       let d = or_parts (named (get_or cs i 0) (take i cs)) _ b.1 in
-      (leb-false (length es / 2) (get_or cs i 0) a.0, eqb-true (get_or es (2 * get_or cs i 0) 0) 0 (not_false _ b.0), d.0, leb-false 4294967296 (get_or ps i 0) d.1)
+      (leb-false (length es / 2) (get_or cs i 0) a.0, eqb-true (get_or es (2 * get_or cs i 0) 0) 0 (not-false _ b.0), d.0, leb-false 4294967296 (get_or ps i 0) d.1)
 
   not_unfit : CanBe es cs ps i → unfit es cs ps i ≡ false
   unfolding unfit
