@@ -1,4 +1,6 @@
 // Makes small random plants, tries all labellings of each with numbers of its own, and compares what `labelling` answers. A line for each plant where the two differ, and how many plants of each kind were met.
+#![tactic(auto)]
+
 mod filling;
 mod plants;
 

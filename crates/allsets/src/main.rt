@@ -1,4 +1,6 @@
 // Makes small random plants with candidates, tries all sets of these, and compares what `sensors` chooses. A line for each plant where the two differ, and how many plants of each kind were met.
+#![tactic(auto)]
+
 mod filling;
 mod pairs;
 mod plants;

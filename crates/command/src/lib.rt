@@ -1,18 +1,8 @@
 // What the program does, as functions on values.
-mod checking;
-mod following;
-mod judging;
-mod listening;
-mod opening;
-mod picturing;
-mod signs;
-mod valid;
+#![tactic(auto)]
 
-pub use checking::check;
-pub use following::follow;
-pub use judging::{judge, judge_for};
+mod listening;
+mod signs;
+
 pub use listening::{Line, Listener};
-pub use opening::open;
-pub use picturing::draw;
 pub use signs::{Unread, read_sign};
-pub use valid::Opened;

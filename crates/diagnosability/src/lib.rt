@@ -1,4 +1,6 @@
 // Judging a plant: every fault comes out after a number of events, or two runs hide one.
+#![tactic(auto)]
+
 mod checks;
 mod entry;
 mod rows;

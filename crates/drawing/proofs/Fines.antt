@@ -1,5 +1,5 @@
 -- What is read is fine. Assumes nothing.
-use Rattle.std.proofs.Common.{◌≡◌, ℕ, zero, suc, ◌+◌, ◌^◌, ◌<◌, ◌≤◌, min, Bool, true, false, cond, ◌&&◌, ◌||◌, eqb, ltb, leb, List, [], ◌∷◌, ◌++◌, length, get_or, set, Some, None, Ok, Err, codes, Option, Result, sym, refl, ap, ◌∙◌, subst, inl, inr, arith}
+use Rattle.std.proofs.Common.{◌≡◌, ℕ, zero, suc, ◌+◌, ◌^◌, ◌<◌, ◌≤◌, min, Bool, true, false, cond, ◌&&◌, ◌||◌, ltb, leb, List, [], ◌∷◌, ◌++◌, length, get_or, set, Some, None, Ok, Err, codes, Option, Result, sym, refl, ap, ◌∙◌, subst, inl, inr, arith}
 use Rattle.std.specs.Option.{option_map}
 use Rattle.std.specs.List.{AllByRecursion}
 use Rattle.std.specs.Str.{all_ascii_digits, bytes_eq}
@@ -9,13 +9,13 @@ use Rattle.std.proofs.lemmas.List.{get_or_append_left, get_or_push, length_push,
 use Rattle.std.proofs.lemmas.Str.Parse.{digits_value_short}
 use Rattle.std.proofs.lemmas.Bool.{cases_Bool, cases_lt, and_parts, or_parts, leb-true, ltb-true, ltb-false}
 use Rattle.std.proofs.lemmas.Bool.Decides.{nat_tests}
-use Rattle.grammar.specs.Line.{Said, nothing, arrow, fault, shows, costs, is_name, is_text, numeral, read_on, from_state, two_words, of_sort, of_event, three_words, of_words, before_comment, of_text, of_line}
+use Rattle.grammar.specs.Line.{Said, nothing, arrow, fault, shows, is_name, is_text, numeral, read_on, from_state, two_words, three_words, of_words, before_comment, of_text, of_line}
 use Rattle.grammar.specs.Words.{words}
 use Rattle.grammar.proofs.Numbers.{own}
 use Rattle.drawing.specs.declared.shape.Arrow.{Arrow}
 use Rattle.drawing.specs.declared.shape.Event.{Event}
 use Rattle.drawing.specs.Drafted.{Drafted, blank_sheet, place, number, unsaid, mentioned, clash, put}
-use Rattle.drawing.specs.Fine.{Fine, or_zero, no_arrow, ShortEvent, GoesBy}
+use Rattle.drawing.specs.Fine.{Fine, sign_of, no_arrow, Short-sign, GoesBy}
 use Rattle.drawing.specs.Lines.{lines}
 use Rattle.drawing.specs.Reads.{put_said, added, if_read, read_from, drafting}
 use Rattle.drawing.proofs.Places.{place_le}
@@ -43,9 +43,8 @@ module _ {A : Type 0} where
 abbrev Good : Said → Type 0
 Good nothing = Unit {0}
 Good (arrow m w n) = (m < 10 ^ 18) × (is_name w ≡ true) × (n < 10 ^ 18)
-Good (fault w k) = (is_name w ≡ true) × (k < 10 ^ 18)
+Good (fault w) = is_name w ≡ true
 Good (shows w n) = (is_name w ≡ true) × (n < 10 ^ 18)
-Good (costs w n) = (is_name w ≡ true) × (n < 10 ^ 18)
 
 short_numeral : (w : List ℕ) (n : ℕ) → numeral w ≡ Some n → n < 10 ^ 18
 short_numeral w n h =
@@ -58,10 +57,6 @@ shown_good : (w : List ℕ) (o : Option ℕ) (s : Said) → is_name w ≡ true �
 shown_good w None s name short h = absurd (none_some s h)
 shown_good w (Some n) s name short h = subst Good (same_some _ _ h) (name, short n refl)
 
-priced_good : (w : List ℕ) (o : Option ℕ) (s : Said) → is_name w ≡ true → ((n : ℕ) → o ≡ Some n → n < 10 ^ 18) → option_map (costs w) o ≡ Some s → Good s
-priced_good w None s name short h = absurd (none_some s h)
-priced_good w (Some n) s name short h = subst Good (same_some _ _ h) (name, short n refl)
-
 to_good : (m : ℕ) (v : List ℕ) (o : Option ℕ) (s : Said) → m < 10 ^ 18 → is_name v ≡ true → ((n : ℕ) → o ≡ Some n → n < 10 ^ 18) → option_map (arrow m v) o ≡ Some s → Good s
 to_good m v None s from name short h = absurd (none_some s h)
 to_good m v (Some n) s from name short h = subst Good (same_some _ _ h) (from, name, short n refl)
@@ -71,26 +66,12 @@ from_good None v u s short h = absurd (none_some s h)
 from_good (Some m) v u s short h = let p = some_cond (is_name v) _ s h in to_good m v (numeral u) s (short m refl) p.0 (short_numeral u) p.1
 
 two_good : (w v : List ℕ) (s : Said) → two_words w v ≡ Some s → Good s
-two_good w v s h = let p = some_cond (is_name w && bytes_eq v (codes "fault")) _ s h in subst Good (same_some _ _ p.1) ((and_parts (is_name w) _ p.0).0, omega arith)
-
-sort_good : (w : List ℕ) (o : Option ℕ) (s : Said) → is_name w ≡ true → ((n : ℕ) → o ≡ Some n → n < 10 ^ 18) → of_sort w o ≡ Some s → Good s
-sort_good w None s name short h = absurd (none_some s h)
-sort_good w (Some k) s name short h = subst Good (same_some _ _ (some_else (eqb k 0) _ s h)) (name, short k refl)
-
-event_good : (w v u : List ℕ) (s : Said) → is_name w ≡ true → of_event w v u ≡ Some s → Good s
-event_good w v u s name h =
-    elim (cases_Bool (bytes_eq v (codes "shows"))) [
-      | inl e ↦ shown_good w (numeral u) s name (short_numeral u) (rw e at h)
-      | inr e ↦ elim (cases_Bool (bytes_eq v (codes "fault"))) [
-        | inl f ↦ sort_good w (numeral u) s name (short_numeral u) (rw (e, f) at h)
-        | inr f ↦ priced_good w (numeral u) s name (short_numeral u) (some_cond (bytes_eq v (codes "price")) _ s (rw (e, f) at h)).1
-      ]
-    ]
+two_good w v s h = let p = some_cond (is_name w && bytes_eq v (codes "fault")) _ s h in subst Good (same_some _ _ p.1) (and_parts (is_name w) _ p.0).0
 
 three_good : (w v u : List ℕ) (s : Said) → three_words w v u ≡ Some s → Good s
 three_good w v u s h =
     elim (cases_Bool (is_name w)) [
-      | inl e ↦ event_good w v u s e (rw e at h)
+      | inl e ↦ shown_good w (numeral u) s e (short_numeral u) (some_cond (bytes_eq v (codes "shows")) _ s (rw e at h)).1
       | inr e ↦ from_good (numeral w) v u s (short_numeral w) (rw e at h)
     ]
 
@@ -110,7 +91,7 @@ pub record EachFine (d : Drafted) : Type 0 where
   pub apart : (i : ℕ) → i < length d.labels → place d.labels (get_or d.labels i []) ≡ i
   pub few : length d.labels ≤ 66
   pub level : length d.labels ≡ length d.kinds
-  pub signs : AllByRecursion ShortEvent d.kinds
+  pub signs : AllByRecursion Short-sign d.kinds
   pub arrows : AllByRecursion (GoesBy (length d.labels)) d.ways
 
 pub fine_each : (d : Drafted) → Fine d → EachFine d
@@ -124,7 +105,7 @@ each_fine d f =
       apart = f.apart;
       few = f.few;
       level = f.level;
-      signs = λ i lt. All-get_or ShortEvent d.kinds i unsaid lt f.signs;
+      signs = λ i lt. All-get_or Short-sign d.kinds i unsaid lt f.signs;
       arrows = λ i lt. All-get_or (GoesBy (length d.labels)) d.ways i no_arrow lt f.arrows;
     }
 
@@ -174,14 +155,14 @@ fine_mentioned d w name fine =
               apart = more_apart d.labels w fine.apart at.0;
               few = omega (arith, at.1, length_push d.labels w);
               level = omega (arith, fine.level, length_push d.labels w, length_push d.kinds unsaid);
-              signs = All-push _ d.kinds _ fine.signs (omega arith, omega arith, omega arith);
+              signs = All-push _ d.kinds _ fine.signs (omega arith);
               arrows = All-weaker _ _ (wider (length d.labels) _ (omega (arith, length_push d.labels w))) d.ways fine.arrows;
             },
             omega (arith, at, length_push d.labels w),
           )
     ]
 
-fine_set : (d : Drafted) (i : ℕ) (e : Event) → ShortEvent e → EachFine d → EachFine (record { labels = d.labels; kinds = set d.kinds i e; ways = d.ways })
+fine_set : (d : Drafted) (i : ℕ) (e : Event) → Short-sign e → EachFine d → EachFine (record { labels = d.labels; kinds = set d.kinds i e; ways = d.ways })
 fine_set d i e short fine =
     record { spelled = fine.spelled; apart = fine.apart; few = fine.few; level = fine.level ∙ sym (length-set d.kinds i e); signs = All-set _ d.kinds i e short fine.signs; arrows = fine.arrows }
 
@@ -191,24 +172,16 @@ fine_put d (arrow m w n) after good fine h =
     let k = fine_mentioned d w good.1 fine in
     let f = k.0 in
     subst EachFine (same_some _ _ h) (record { spelled = f.spelled; apart = f.apart; few = f.few; level = f.level; signs = f.signs; arrows = All-push _ (mentioned d w).ways _ f.arrows (good.0, k.1, good.2) })
-fine_put d (fault w n) after good fine h =
-    let k = fine_mentioned d w good.0 fine in
+fine_put d (fault w) after good fine h =
+    let k = fine_mentioned d w good fine in
     let e = mentioned d w in
     let i = number d.labels w in
-    let known = All-get_or ShortEvent e.kinds i unsaid (omega (arith, k.0.level, k.1)) k.0.signs in
-    subst EachFine (same_some _ _ (some_else (clash i (get_or e.kinds i unsaid).sort n) _ after h)) (fine_set e i _ (known.0, good.1, known.2) k.0)
+    subst EachFine (same_some _ _ h) (fine_set e i _ (All-get_or Short-sign e.kinds i unsaid (omega (arith, k.0.level, k.1)) k.0.signs) k.0)
 fine_put d (shows w n) after good fine h =
     let k = fine_mentioned d w good.0 fine in
     let e = mentioned d w in
     let i = number d.labels w in
-    let known = All-get_or ShortEvent e.kinds i unsaid (omega (arith, k.0.level, k.1)) k.0.signs in
-    subst EachFine (same_some _ _ (some_else (clash i (get_or e.kinds i unsaid).sign n) _ after h)) (fine_set e i _ (good.1, known.1, known.2) k.0)
-fine_put d (costs w n) after good fine h =
-    let k = fine_mentioned d w good.0 fine in
-    let e = mentioned d w in
-    let i = number d.labels w in
-    let known = All-get_or ShortEvent e.kinds i unsaid (omega (arith, k.0.level, k.1)) k.0.signs in
-    subst EachFine (same_some _ _ (some_else (clash i (get_or e.kinds i unsaid).price n) _ after h)) (fine_set e i _ (known.0, known.1, good.1) k.0)
+    subst EachFine (same_some _ _ (some_else (clash i (get_or e.kinds i unsaid).sign n) _ after h)) (fine_set e i _ good.1 k.0)
 
 fine_said : (d : Drafted) (o : Option Said) (after : Drafted) → ((s : Said) → o ≡ Some s → Good s) → EachFine d → put_said d o ≡ Some after → EachFine after
 fine_said d None after good fine h = absurd (none_some after h)

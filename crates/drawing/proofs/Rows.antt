@@ -1,12 +1,10 @@
 -- Numbers in a row, one element more. Assumes nothing.
-use Rattle.std.proofs.Common.{◌≡◌, ℕ, ◌+◌, ◌^◌, ◌<◌, ◌≤◌, max, List, [], ◌∷◌, ◌++◌, map, length, get_or, take, drop, sym, refl, ap, ◌∙◌, inl, inr, append_assoc, append-nil, arith}
+use Rattle.std.proofs.Common.{◌≡◌, ℕ, ◌+◌, ◌^◌, ◌<◌, ◌≤◌, max, List, [], ◌∷◌, ◌++◌, map, length, get_or, take, drop, sym, refl, ap, ◌∙◌, inl, inr, append_assoc, arith}
 use Rattle.std.specs.List.{flat_map, AllByRecursion}
-use Rattle.std.proofs.lemmas.List.{take_more, take_all, flat_map_more, at_drop_more, at_drop_all}
+use Rattle.std.proofs.lemmas.List.{take_more, take_all, flat_map_more}
 use Rattle.drawing.specs.declared.shape.Arrow.{Arrow}
-use Rattle.drawing.specs.declared.shape.Event.{Event}
-use Rattle.drawing.specs.Drawn.{kind}
 use Rattle.drawing.specs.Fine.{GoesBy, GoBy, no_arrow}
-use Rattle.drawing.specs.Numbers.{greatest_from, greatest, candidate, candidates_from}
+use Rattle.drawing.specs.Numbers.{greatest_from, greatest}
 use Rattle.drawing.proofs.Fines.{all_from}
 
 pub push_two : (o o₁ o₂ : List ℕ) (x y : ℕ) → o₁ ≡ o ++ (x ∷ []) → o₂ ≡ o₁ ++ (y ∷ []) → o₂ ≡ o ++ (x ∷ y ∷ [])
@@ -25,16 +23,6 @@ module _ {X : Type 0} (f : X → List ℕ) (xs : List X) (i : ℕ) (o : List ℕ
 pub joined-map : {X Y : Type 0} (f : Y → List ℕ) (g : X → Y) (xs : List X) → flat_map (λ x. f (g x)) xs ≡ flat_map f (map g xs)
 joined-map f g [] = refl
 joined-map f g (x ∷ xs) = ap (λ l. f (g x) ++ l) (joined-map f g xs)
-
--- what is collected, and then the candidates that are left
-module _ (es : List Event) (i : ℕ) (o : List ℕ) (so_far : o ++ candidates_from i (map kind (drop i es)) ≡ candidates_from 0 (map kind es)) where
-  pub candidates_more : (d : Event) (o₁ : List ℕ) → i < length es → o₁ ≡ o ++ candidate i (get_or es i d).price → o₁ ++ candidates_from (i + 1) (map kind (drop (i + 1) es)) ≡ candidates_from 0 (map kind es)
-  candidates_more d o₁ lt e =
-      let rest = candidates_from (i + 1) (map kind (drop (i + 1) es)) in
-      ap (λ l. l ++ rest) e ∙ append_assoc o (candidate i (get_or es i d).price) rest ∙ ap (λ l. o ++ l) (sym (at_drop_more (λ l. candidates_from i (map kind l)) es i d lt)) ∙ so_far
-
-  pub candidates_all : length es ≤ i → o ≡ candidates_from 0 (map kind es)
-  candidates_all le = sym (append-nil o) ∙ ap (λ l. o ++ l) (sym (at_drop_all (λ l. candidates_from i (map kind l)) es i le)) ∙ so_far
 
 -- no state that is named is long
 short_from : (k n : ℕ) (ys : List Arrow) → n < 10 ^ 18 → AllByRecursion (GoesBy k) ys → greatest_from n ys < 10 ^ 18

@@ -4,7 +4,7 @@ use Rattle.std.specs.Str.{bytes_eq}
 use Rattle.drawing.specs.declared.shape.Arrow.{Arrow}
 use Rattle.drawing.specs.declared.shape.Draft.{Draft}
 use Rattle.drawing.specs.declared.shape.Event.{Event}
-use Rattle.grammar.specs.Line.{Said, nothing, arrow, fault, shows, costs}
+use Rattle.grammar.specs.Line.{Said, nothing, arrow, fault, shows}
 
 -- the events' names, what is said of them, and the arrows
 pub record Drafted : Type 0 where
@@ -35,7 +35,7 @@ abbrev pub number : List (List ℕ) → List ℕ → ℕ
 number ws w = min (place ws w) kept
 
 abbrev pub unsaid : Event
-unsaid = record { sign = None; sort = None; price = None }
+unsaid = record { sign = None; fault = false }
 
 -- an event is known from its first mention on
 abbrev pub mentioned : Drafted → List ℕ → Drafted
@@ -50,7 +50,7 @@ pub record Mentioned (d : Draft) (w : List ℕ) (after : Draft) (i : ℕ) : Type
   pub level : Level after
   pub within : i < vec_len after.events
 
--- another number was said of event i; for those that share one this is not looked at
+-- event i was said to show another sign; for those that share a number this is not looked at
 abbrev pub clash : ℕ → Option ℕ → ℕ → Bool
 clash i None n = false
 clash i (Some m) n = nat_lt i kept && not (m == n)
@@ -61,18 +61,12 @@ put d nothing = Some d
 put d (arrow m w n) =
     let e = mentioned d w in
     Some (record { labels = e.labels; kinds = e.kinds; ways = e.ways ++ (record { «from» = m; event = number d.labels w; to = n } ∷ []) })
-put d (fault w k) =
+put d (fault w) =
     let e = mentioned d w in
     let i = number d.labels w in
-    cond (clash i (slice_index_or e.kinds i unsaid).sort k) None
-    (Some (record { labels = e.labels; kinds = slice_set e.kinds i (record { sign = (slice_index_or e.kinds i unsaid).sign; sort = Some k; price = (slice_index_or e.kinds i unsaid).price }); ways = e.ways }))
+    Some (record { labels = e.labels; kinds = slice_set e.kinds i (record { sign = (slice_index_or e.kinds i unsaid).sign; fault = true }); ways = e.ways })
 put d (shows w n) =
     let e = mentioned d w in
     let i = number d.labels w in
     cond (clash i (slice_index_or e.kinds i unsaid).sign n) None
-    (Some (record { labels = e.labels; kinds = slice_set e.kinds i (record { sign = Some n; sort = (slice_index_or e.kinds i unsaid).sort; price = (slice_index_or e.kinds i unsaid).price }); ways = e.ways }))
-put d (costs w n) =
-    let e = mentioned d w in
-    let i = number d.labels w in
-    cond (clash i (slice_index_or e.kinds i unsaid).price n) None
-    (Some (record { labels = e.labels; kinds = slice_set e.kinds i (record { sign = (slice_index_or e.kinds i unsaid).sign; sort = (slice_index_or e.kinds i unsaid).sort; price = Some n }); ways = e.ways }))
+    (Some (record { labels = e.labels; kinds = slice_set e.kinds i (record { sign = Some n; fault = (slice_index_or e.kinds i unsaid).fault }); ways = e.ways }))

@@ -5,10 +5,10 @@ use Rattle.drawing.specs.declared.shape.Event.{Event}
 use Rattle.drawing.specs.Drafted.{Drafted, place, kept, unsaid}
 use Rattle.grammar.specs.Line.{is_name}
 
--- an event that no line says to show something shows nothing, and one that none says to be a fault is none
-abbrev pub or_zero : Option ℕ → ℕ
-or_zero None = 0
-or_zero (Some n) = n
+-- an event that no line says to show something shows nothing
+abbrev pub sign_of : Option ℕ → ℕ
+sign_of None = 0
+sign_of (Some n) = n
 
 abbrev pub no_arrow : Arrow
 no_arrow = record { «from» = 0; event = 0; to = 0 }
@@ -22,11 +22,11 @@ abbrev pub Apart : List (List ℕ) → Type 0
 Apart ws = (i : ℕ) → i < length ws → place ws (slice_index_or ws i []) ≡ i
 
 -- 18 digits are enough for a number
-abbrev pub ShortEvent : Event → Type 0
-ShortEvent e = (or_zero e.sign < 10 ^ 18) × (or_zero e.sort < 10 ^ 18) × (or_zero e.price < 10 ^ 18)
+abbrev pub Short-sign : Event → Type 0
+Short-sign e = sign_of e.sign < 10 ^ 18
 
-abbrev pub ShortEvents : List Event → Type 0
-ShortEvents es = (i : ℕ) → i < length es → ShortEvent (slice_index_or es i unsaid)
+abbrev pub Short-signs : List Event → Type 0
+Short-signs es = (i : ℕ) → i < length es → Short-sign (slice_index_or es i unsaid)
 
 -- an arrow goes by one of n events
 abbrev pub GoesBy : ℕ → Arrow → Type 0
@@ -40,5 +40,5 @@ pub record Fine (d : Drafted) : Type 0 where
   pub apart : Apart d.labels
   pub few : length d.labels ≤ kept + 1
   pub level : length d.labels ≡ length d.kinds
-  pub signs : ShortEvents d.kinds
+  pub signs : Short-signs d.kinds
   pub arrows : GoBy (length d.labels) d.ways

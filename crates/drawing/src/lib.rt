@@ -1,4 +1,6 @@
 // A plant as a text draws it, and the numbers that it is checked by.
+#![tactic(auto)]
+
 mod finished;
 mod lines;
 mod names;

@@ -36,8 +36,7 @@ impl Draft {
         self.names.push(String::from_str(heap, name)?)?;
         self.events.push(Event {
             sign: None,
-            sort: None,
-            price: None,
+            fault: false,
         })?;
         Ok(place)
     }

@@ -1,26 +1,17 @@
 // A drawing as the numbers that a plant is checked by.
-ghost use Rattle.std.specs.Prelude.{◌≡◌, ◌+◌, ◌^◌, ◌<◌, min, ◌++◌, map, IfOk, string_bytes, OnOk};
+ghost use Rattle.std.specs.Prelude.{◌≡◌, ◌+◌, ◌^◌, ◌<◌, ◌++◌, map, IfOk, string_bytes, OnOk};
 ghost use Rattle.std.specs.List.{flat_map};
 ghost use Rattle.drawing.specs.Drawn.{drawn, kind};
-ghost use Rattle.drawing.specs.Numbers.{greatest, states_of, capped, three, two, arrow_numbers, event_numbers, fault_numbers, candidate, candidates_from, candidates, price_of, prices};
+ghost use Rattle.drawing.specs.Numbers.{greatest, states_of, capped, three, two, arrow_numbers, event_numbers};
 
 use crate::finished::Drawing;
 use crate::shape::{Arrow, Event};
 use std::alloc::{AllocError, Global};
 
-// The greatest of 16 bits.
-const MOST: u16 = 65535;
-
-fn at_most(n: u64, most: u16) -> u16
-    ensures { result ≡ min n most }
-{
-    if n > u64::from(most) { most } else { n as u16 }
-}
-
 fn capped(n: u64) -> u16
     ensures { result ≡ capped n }
 {
-    at_most(n, MOST)
+    if n > 65535 { 65535 } else { n as u16 }
 }
 
 fn push_arrow(numbers: &mut Vec<u16>, a: Arrow) -> Result<(), AllocError>
@@ -32,11 +23,11 @@ fn push_arrow(numbers: &mut Vec<u16>, a: Arrow) -> Result<(), AllocError>
     Ok(())
 }
 
-fn push_event(numbers: &mut Vec<u16>, e: Event, most: u16) -> Result<(), AllocError>
-    ensures { OnOk result (numbers.new.items ≡ numbers.old.items ++ two most (kind e)) }
+fn push_event(numbers: &mut Vec<u16>, e: Event) -> Result<(), AllocError>
+    ensures { OnOk result (numbers.new.items ≡ numbers.old.items ++ two (kind e)) }
 {
     numbers.push(capped(e.shown()))?;
-    numbers.push(at_most(e.fault_sort(), most))?;
+    numbers.push(u16::from(e.fault))?;
     Ok(())
 }
 
@@ -50,52 +41,14 @@ fn all_arrows(heap: Global, arrows: &[Arrow]) -> Result<Vec<u16>, AllocError>
     Ok(numbers)
 }
 
-fn all_events(heap: Global, events: &[Event], most: u16) -> Result<Vec<u16>, AllocError>
-    ensures { IfOk result (λ v. v.items ≡ flat_map (two most) (map kind events.now)) }
+fn all_events(heap: Global, events: &[Event]) -> Result<Vec<u16>, AllocError>
+    ensures { IfOk result (λ v. v.items ≡ flat_map two (map kind events.now)) }
 {
     let mut numbers = Vec::new(heap);
     for e in events {
-        push_event(&mut numbers, *e, most)?;
+        push_event(&mut numbers, *e)?;
     }
     Ok(numbers)
-}
-
-fn push_candidate(numbers: &mut Vec<u16>, number: usize, e: Event) -> Result<(), AllocError>
-    ensures { OnOk result (numbers.new.items ≡ numbers.old.items ++ candidate number e.price) }
-{
-    if let Some(_) = e.price {
-        numbers.push(capped(number as u64))?;
-    }
-    Ok(())
-}
-
-fn all_candidates(heap: Global, events: &[Event]) -> Result<Vec<u16>, AllocError>
-    ensures { IfOk result (λ v. v.items ≡ candidates_from 0 (map kind events.now)) }
-{
-    let mut numbers = Vec::new(heap);
-    for (i, e) in events.iter().enumerate() {
-        push_candidate(&mut numbers, i, *e)?;
-    }
-    Ok(numbers)
-}
-
-fn push_price(prices: &mut Vec<u64>, e: Event) -> Result<(), AllocError>
-    ensures { OnOk result (prices.new.items ≡ prices.old.items ++ price_of e.price) }
-{
-    if let Some(price) = e.price {
-        prices.push(price)?;
-    }
-    Ok(())
-}
-
-fn all_prices(heap: Global, events: &[Event]) -> Result<Vec<u64>, AllocError>
-    ensures { IfOk result (λ v. v.items ≡ flat_map (λ k. price_of k.price) (map kind events.now)) }
-{
-    let mut prices = Vec::new(heap);
-    for e in events {
-        push_price(&mut prices, *e)?;
-    }
-    Ok(prices)
 }
 
 fn greatest(arrows: &[Arrow]) -> u64
@@ -150,31 +103,10 @@ impl Drawing {
         all_arrows(heap, self.arrows())
     }
 
-    // Two numbers for each event: its sign, and the sort of fault that it is.
+    // Two numbers for each event: its sign, and 1 if it is a fault.
     pub fn event_numbers(&self, heap: Global) -> Result<Vec<u16>, AllocError>
         ensures { IfOk result (λ v. v.items ≡ event_numbers (drawn self.now)) }
     {
-        all_events(heap, self.events(), MOST)
-    }
-
-    // The same with 1 for every sort: for what does not tell sorts apart.
-    pub fn fault_numbers(&self, heap: Global) -> Result<Vec<u16>, AllocError>
-        ensures { IfOk result (λ v. v.items ≡ fault_numbers (drawn self.now)) }
-    {
-        all_events(heap, self.events(), 1)
-    }
-
-    // The numbers of the events that have a price.
-    pub fn candidates(&self, heap: Global) -> Result<Vec<u16>, AllocError>
-        ensures { IfOk result (λ v. v.items ≡ candidates (drawn self.now)) }
-    {
-        all_candidates(heap, self.events())
-    }
-
-    // The prices of these, in the same order.
-    pub fn prices(&self, heap: Global) -> Result<Vec<u64>, AllocError>
-        ensures { IfOk result (λ v. v.items ≡ prices (drawn self.now)) }
-    {
-        all_prices(heap, self.events())
+        all_events(heap, self.events())
     }
 }

@@ -1,6 +1,6 @@
 // What a statement adds to a draft.
 ghost use Rattle.std.specs.Prelude.{◌≡◌, Some, OnOk};
-ghost use Rattle.grammar.specs.Line.{said, arrow, fault, shows, costs};
+ghost use Rattle.grammar.specs.Line.{said, arrow, fault, shows};
 ghost use Rattle.drawing.specs.Drafted.{drafted, Level, blank_sheet, clash, put};
 ghost use Rattle.drawing.specs.Added.{Outcome};
 
@@ -10,12 +10,12 @@ use crate::shape::{Arrow, Draft};
 use grammar::Statement;
 use std::alloc::{AllocError, Global};
 
-// Whether another number was said of event i.
-fn contradicts(i: usize, known: Option<u64>, other: u64) -> bool
-    ensures { result ≡ clash i known other }
+// Whether event i was said to show another sign.
+fn contradicts(i: usize, known: Option<u64>, sign: u64) -> bool
+    ensures { result ≡ clash i known sign }
 {
     match known {
-        Some(number) => i < KEPT && number != other,
+        Some(other) => i < KEPT && other != sign,
         None => false,
     }
 }
@@ -42,16 +42,13 @@ impl Draft {
         Ok(())
     }
 
-    fn mark(&mut self, heap: Global, event: &str, sort: u64, line: u64) -> Result<(), ReadError>
+    fn mark(&mut self, heap: Global, event: &str) -> Result<(), AllocError>
         requires { Level self.old }
         ensures level { OnOk result (Level self.new) }
-        ensures put { Outcome (put (drafted self.old) (fault event.now sort)) line (drafted self.new) result }
+        ensures put { OnOk result (put (drafted self.old) (fault event.now) ≡ Some (drafted self.new)) }
     {
         let i = self.mention(heap, event)?;
-        if contradicts(i, self.events[i].sort, sort) {
-            return Err(ReadError::Line(line));
-        }
-        self.events[i].sort = Some(sort);
+        self.events[i].fault = true;
         Ok(())
     }
 
@@ -68,19 +65,6 @@ impl Draft {
         Ok(())
     }
 
-    fn value(&mut self, heap: Global, event: &str, price: u64, line: u64) -> Result<(), ReadError>
-        requires { Level self.old }
-        ensures level { OnOk result (Level self.new) }
-        ensures put { Outcome (put (drafted self.old) (costs event.now price)) line (drafted self.new) result }
-    {
-        let i = self.mention(heap, event)?;
-        if contradicts(i, self.events[i].price, price) {
-            return Err(ReadError::Line(line));
-        }
-        self.events[i].price = Some(price);
-        Ok(())
-    }
-
     // Adds what a statement says, that of the line of that number.
     pub(crate) fn add(&mut self, heap: Global, s: Statement<'_>, line: u64) -> Result<(), ReadError>
         requires { Level self.old }
@@ -90,9 +74,8 @@ impl Draft {
         match s {
             Statement::Nothing => {}
             Statement::Arrow { from, event, to } => self.draw(heap, from, event, to)?,
-            Statement::Fault { event, sort } => self.mark(heap, event, sort, line)?,
+            Statement::Fault { event } => self.mark(heap, event)?,
             Statement::Shows { event, sign } => self.show(heap, event, sign, line)?,
-            Statement::Price { event, price } => self.value(heap, event, price, line)?,
         }
         Ok(())
     }

@@ -1,32 +1,21 @@
 // What a text draws.
 ghost use Rattle.std.specs.Prelude.{◌≡◌};
-ghost use Rattle.drawing.specs.Fine.{or_zero};
+ghost use Rattle.drawing.specs.Fine.{sign_of};
 
-// What the lines say of an event: the sign that it shows, 0 for nothing, the sort of fault that it is, and the price for which it would show a sign of its own.
+// The sign that a line says the event shows, 0 for nothing, if one says so; and whether it is a fault.
 #[derive(Clone, Copy)]
 pub struct Event {
     pub sign: Option<u64>,
-    pub sort: Option<u64>,
-    pub price: Option<u64>,
+    pub fault: bool,
 }
 
 impl Event {
     // The sign that it shows, 0 for nothing.
     pub fn shown(self) -> u64
-        ensures { result ≡ or_zero self.sign }
+        ensures { result ≡ sign_of self.sign }
     {
         match self.sign {
             Some(sign) => sign,
-            None => 0,
-        }
-    }
-
-    // The sort of fault that it is, 0 for none.
-    pub fn fault_sort(self) -> u64
-        ensures { result ≡ or_zero self.sort }
-    {
-        match self.sort {
-            Some(sort) => sort,
             None => 0,
         }
     }

@@ -1,4 +1,6 @@
 // Makes small random plants, tries all their runs up to a length by the definition, and compares what the entries answer: `follow` of the observer and `judge` of diagnosability. It ends at the first answer that the runs contradict.
+#![tactic(auto)]
+
 mod calls;
 mod cases;
 mod counts;

@@ -1,4 +1,6 @@
 // Makes small random plants, tries all their runs without a fault up to a length by the definition, and compares what `foretell` answers. It ends at the first answer that the runs contradict.
+#![tactic(auto)]
+
 mod answers;
 mod plants;
 mod rows;

@@ -1,5 +1,7 @@
 // Foretelling: what it means that the faults of a plant are foretold, and what holds of every plant, of any size.
 // Each theorem is the promise of a function that does nothing: without its proof the crate is not proved.
+#![tactic(auto)]
+
 ghost use Rattle.foretelling.specs.Theorems.{AlarmStays, ForetoldOrMissed, InNone, LastMoment, IsNotForetold, Settles, Unwarned};
 ghost use Rattle.foretelling.specs.Worked.{WorkedForetelling};
 

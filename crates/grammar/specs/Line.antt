@@ -5,23 +5,21 @@ use Rattle.std.specs.Option.{option_map}
 use Rattle.std.specs.Char.{is_ascii_digit, is_ascii_alphabetic}
 use Rattle.std.specs.Str.{all_ascii_digits, bytes_eq, chars}
 use Rattle.grammar.specs.declared.statement.Statement.{Statement}
-use Rattle.grammar.specs.declared.statement.Statement.TheVariants.{Nothing, Arrow, Fault, Shows, Price}
+use Rattle.grammar.specs.declared.statement.Statement.TheVariants.{Nothing, Arrow, Fault, Shows}
 use Rattle.grammar.specs.Words.{words}
 
 -- a statement, with its words as lists of bytes
 pub data Said : Type 0 where
   nothing : Said
   arrow : ℕ → List ℕ → ℕ → Said
-  fault : List ℕ → ℕ → Said
+  fault : List ℕ → Said
   shows : List ℕ → ℕ → Said
-  costs : List ℕ → ℕ → Said
 
 abbrev pub said : Statement → Said
 said Nothing = nothing
 said (Arrow start label end) = arrow start label.now end
-said (Fault label k) = fault label.now k
+said (Fault label) = fault label.now
 said (Shows label value) = shows label.now value
-said (Price label value) = costs label.now value
 
 -- whether the bytes are UTF-8: they have characters, and are how these are written
 unfoldable pub is_text : List ℕ → Bool
@@ -57,25 +55,13 @@ abbrev pub from_state : Option ℕ → List ℕ → List ℕ → Option Said
 from_state None v u = None
 from_state (Some m) v u = cond (is_name v) (option_map (arrow m v) (numeral u)) None
 
--- `NAME fault` is a fault of sort 1
+-- `NAME fault`
 abbrev pub two_words : List ℕ → List ℕ → Option Said
-two_words w v = cond (is_name w && bytes_eq v (codes "fault")) (Some (fault w 1)) None
+two_words w v = cond (is_name w && bytes_eq v (codes "fault")) (Some (fault w)) None
 
--- a fault of a sort, which is not 0
-abbrev pub of_sort : List ℕ → Option ℕ → Option Said
-of_sort w None = None
-of_sort w (Some k) = cond (k == 0) None (Some (fault w k))
-
--- `NAME shows NUMBER`, `NAME fault NUMBER` or `NAME price NUMBER`
-abbrev pub of_event : List ℕ → List ℕ → List ℕ → Option Said
-of_event w v u =
-    cond (bytes_eq v (codes "shows")) (option_map (shows w) (numeral u))
-    (cond (bytes_eq v (codes "fault")) (of_sort w (numeral u))
-    (cond (bytes_eq v (codes "price")) (option_map (costs w) (numeral u)) None))
-
--- one of these, or `NUMBER NAME NUMBER`
+-- `NAME shows NUMBER`, or `NUMBER NAME NUMBER`
 abbrev pub three_words : List ℕ → List ℕ → List ℕ → Option Said
-three_words w v u = cond (is_name w) (of_event w v u) (from_state (numeral w) v u)
+three_words w v u = cond (is_name w) (cond (bytes_eq v (codes "shows")) (option_map (shows w) (numeral u)) None) (from_state (numeral w) v u)
 
 abbrev pub of_words : List (List ℕ) → Option Said
 of_words [] = Some nothing

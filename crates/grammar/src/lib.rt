@@ -1,4 +1,6 @@
 // The text of a plant, line by line: what a line says. Nothing is allocated here.
+#![tactic(auto)]
+
 mod statement;
 mod words;
 

@@ -1,7 +1,7 @@
 // A line as a statement.
 ghost use Rattle.std.specs.Prelude.{◌≡◌, true, false, [], ◌∷◌, MatchOption};
 ghost use Rattle.std.specs.Option.{option_map};
-ghost use Rattle.grammar.specs.Line.{said, shows, costs, name_byte, every, is_name, numeral, is_text, of_sort, of_event, two_words, three_words, of_text, of_line, before_comment};
+ghost use Rattle.grammar.specs.Line.{said, name_byte, every, is_name, numeral, is_text, two_words, three_words, of_text, of_line, before_comment};
 
 use crate::words::next_word;
 use std::str::from_utf8;
@@ -10,9 +10,8 @@ use std::str::from_utf8;
 pub enum Statement<'a> {
     Nothing,
     Arrow { from: u64, event: &'a str, to: u64 },
-    Fault { event: &'a str, sort: u64 },
+    Fault { event: &'a str },
     Shows { event: &'a str, sign: u64 },
-    Price { event: &'a str, price: u64 },
 }
 
 // The part of a line before a comment.
@@ -80,60 +79,21 @@ fn fault<'a>(event: &'a str, verb: &str) -> Option<Statement<'a>>
     ensures { option_map said result ≡ two_words event.now verb.now }
 {
     if is_name(event) && verb == "fault" {
-        Some(Statement::Fault { event, sort: 1 })
+        Some(Statement::Fault { event })
     } else {
         None
     }
 }
 
-// The sign that an event shows.
-fn shown<'a>(event: &'a str, word: &str) -> Option<Statement<'a>>
-    ensures { option_map said result ≡ option_map (shows event.now) (numeral word.now) }
-{
-    let sign = number(word)?;
-    Some(Statement::Shows { event, sign })
-}
-
-// The sort of fault that an event is, which is not 0.
-fn sorted<'a>(event: &'a str, word: &str) -> Option<Statement<'a>>
-    ensures { option_map said result ≡ of_sort event.now (numeral word.now) }
-{
-    let sort = number(word)?;
-    if sort == 0 {
-        return None;
-    }
-    Some(Statement::Fault { event, sort })
-}
-
-// The price for which an event would show a sign of its own.
-fn priced<'a>(event: &'a str, word: &str) -> Option<Statement<'a>>
-    ensures { option_map said result ≡ option_map (costs event.now) (numeral word.now) }
-{
-    let price = number(word)?;
-    Some(Statement::Price { event, price })
-}
-
-// What a number says of an event.
-fn of_event<'a>(event: &'a str, verb: &str, word: &str) -> Option<Statement<'a>>
-    ensures { option_map said result ≡ of_event event.now verb.now word.now }
-{
-    if verb == "shows" {
-        return shown(event, word);
-    }
-    if verb == "fault" {
-        return sorted(event, word);
-    }
-    if verb == "price" {
-        return priced(event, word);
-    }
-    None
-}
-
-fn event_or_arrow<'a>(first: &'a str, second: &'a str, third: &str) -> Option<Statement<'a>>
+fn shows_or_arrow<'a>(first: &'a str, second: &'a str, third: &str) -> Option<Statement<'a>>
     ensures { option_map said result ≡ three_words first.now second.now third.now }
 {
     if is_name(first) {
-        return of_event(first, second, third);
+        if second != "shows" {
+            return None;
+        }
+        let sign = number(third)?;
+        return Some(Statement::Shows { event: first, sign });
     }
     let from = number(first)?;
     if !is_name(second) {
@@ -159,7 +119,7 @@ fn read_text(line: &str) -> Option<Statement<'_>>
         return fault(first, second);
     };
     match next_word(rest) {
-        None => event_or_arrow(first, second, third),
+        None => shows_or_arrow(first, second, third),
         Some(_) => None,
     }
 }

@@ -1,4 +1,6 @@
 // Fewest signs: numbers for the events of a plant, faults 0, of as few different signs as there can be so that every fault comes out.
+#![tactic(auto)]
+
 mod answer;
 mod checks;
 mod entry;

@@ -4,10 +4,10 @@ use Rattle.std.specs.Char.{is_ascii_digit, is_ascii_alphabetic}
 use Rattle.std.specs.Str.{all_ascii_digits, bytes_eq}
 use Rattle.std.proofs.lemmas.Fmt.{digits_decimal, digits_value-decimal, decimal_nonempty, length-decimal-le}
 use Rattle.std.proofs.lemmas.List.{get_or_past}
-use Rattle.std.proofs.lemmas.Bool.{cases_lt, and_parts, and_from, lt-ltb, le-leb, ltb-true, false≢true, ne_eqb}
+use Rattle.std.proofs.lemmas.Bool.{cases_lt, and_parts, and_from, lt-ltb, le-leb, ltb-true, false≢true}
 use Rattle.std.proofs.lemmas.Str.{IsUtf8-from_ascii}
 use Rattle.std.proofs.lemmas.Bool.Decides.{nat_tests}
-use Rattle.grammar.specs.Line.{Said, nothing, arrow, fault, shows, costs, before_comment, name_byte, every, is_name, numeral, read_on, is_text, of_words, of_text, of_line}
+use Rattle.grammar.specs.Line.{Said, nothing, arrow, fault, shows, before_comment, name_byte, every, is_name, numeral, read_on, is_text, of_words, of_text, of_line}
 use Rattle.grammar.specs.Words.{blank, dark, ended, words_from, words}
 use Rattle.grammar.proofs.Lacking.{before_all}
 use Rattle.grammar.proofs.Numbers.{own}
@@ -135,43 +135,25 @@ pub word_last : (w : List ℕ) → Word w → words w ≡ w ∷ []
 word_last [] h = absurd (omega (arith, h.some))
 word_last (b ∷ w) h = ap words (sym (append-nil (b ∷ w))) ∙ whole_word [] (b ∷ w) [] h.bytes
 
--- what the kinds of lines say
+-- what the three kinds of lines say
 module _ (w : List ℕ) (name : is_name w ≡ true) where
-  -- a name, a verb and a number
-  number-said : (v : List ℕ) → Word v → (n : ℕ) → n < 10 ^ 18 → (every clean (w ++ (32 ∷ (v ++ (32 ∷ decimal n)))) ≡ true) × (words (w ++ (32 ∷ (v ++ (32 ∷ decimal n)))) ≡ w ∷ v ∷ decimal n ∷ [])
-  number-said v verb n small =
-      let a = name_word w name in
-      let b = number_word n small in (
-        every_append clean w _ (plain-clean w a.bytes) (every_append clean v _ (plain-clean v verb.bytes) (plain-clean (decimal n) b.bytes)),
-        word_on w _ a ∙ ap (λ ws. w ∷ ws) (word_on v (decimal n) verb ∙ ap (λ ws. v ∷ ws) (word_last (decimal n) b)),
-      )
-
   pub shows_line : (n : ℕ) → n < 10 ^ 18 → (every clean (w ++ (codes " shows " ++ decimal n)) ≡ true) × (of_line (w ++ (codes " shows " ++ decimal n)) ≡ Some (shows w n))
   shows_line n small =
-      let h = number-said (codes "shows") (record { some = omega arith; bytes = refl }) n small in
+      let l = w ++ (codes " shows " ++ decimal n) in
+      let a = name_word w name in
+      let b = number_word n small in
+      let tidy : every clean l ≡ true = every_append clean w _ (plain-clean w a.bytes) (every_append clean (codes " shows ") (decimal n) refl (plain-clean (decimal n) b.bytes)) in
+      let cut : words l ≡ w ∷ codes "shows" ∷ decimal n ∷ [] = word_on w _ a ∙ ap (λ ws. w ∷ ws) (word_on (codes "shows") (decimal n) (record { some = omega arith; bytes = refl }) ∙ ap (λ ws. codes "shows" ∷ ws) (word_last (decimal n) b)) in
       let reads = number_reads n small in
-      (h.0, clean_says (w ++ (codes " shows " ++ decimal n)) _ h.0 (ap of_words h.1 ∙ rw (name, reads)))
+      (tidy, clean_says l _ tidy (ap of_words cut ∙ rw (name, reads)))
 
-  pub price_reads : (n : ℕ) → n < 10 ^ 18 → (every clean (w ++ (codes " price " ++ decimal n)) ≡ true) × (of_line (w ++ (codes " price " ++ decimal n)) ≡ Some (costs w n))
-  price_reads n small =
-      let h = number-said (codes "price") (record { some = omega arith; bytes = refl }) n small in
-      let reads = number_reads n small in
-      (h.0, clean_says (w ++ (codes " price " ++ decimal n)) _ h.0 (ap of_words h.1 ∙ rw (name, reads)))
-
-  pub fault_reads : (every clean (w ++ codes " fault") ≡ true) × (of_line (w ++ codes " fault") ≡ Some (fault w 1))
-  fault_reads =
+  pub fault_line : (every clean (w ++ codes " fault") ≡ true) × (of_line (w ++ codes " fault") ≡ Some (fault w))
+  fault_line =
       let l = w ++ codes " fault" in
       let a = name_word w name in
       let tidy : every clean l ≡ true = every_append clean w _ (plain-clean w a.bytes) refl in
       let cut : words l ≡ w ∷ codes "fault" ∷ [] = word_on w _ a in
       (tidy, clean_says l _ tidy (ap of_words cut ∙ rw name))
-
-  pub sort_reads : (k : ℕ) → 1 ≤ k → k < 10 ^ 18 → (every clean (w ++ (codes " fault " ++ decimal k)) ≡ true) × (of_line (w ++ (codes " fault " ++ decimal k)) ≡ Some (fault w k))
-  sort_reads k some small =
-      let h = number-said (codes "fault") (record { some = omega arith; bytes = refl }) k small in
-      let reads = number_reads k small in
-      let more = ne_eqb k 0 (λ z. omega arith) in
-      (h.0, clean_says (w ++ (codes " fault " ++ decimal k)) _ h.0 (ap of_words h.1 ∙ rw (name, reads, more)))
 
   pub arrow_line_reads : (m n : ℕ) → m < 10 ^ 18 → n < 10 ^ 18 → (every clean (decimal m ++ (32 ∷ (w ++ (32 ∷ decimal n)))) ≡ true) × (of_line (decimal m ++ (32 ∷ (w ++ (32 ∷ decimal n)))) ≡ Some (arrow m w n))
   arrow_line_reads m n small little =

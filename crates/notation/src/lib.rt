@@ -1,6 +1,8 @@
 // A drawing as a text that reads as the drawing.
+#![tactic(auto)]
+
 #[cfg(test)]
 mod tests;
 mod texts;
 
-pub use texts::{write, write_with};
+pub use texts::write;

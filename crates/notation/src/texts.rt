@@ -4,67 +4,47 @@ ghost use Rattle.std.specs.List.{flat_map};
 ghost use Rattle.drawing.specs.Drawn.{drawn, kind};
 ghost use Rattle.drawing.specs.Fine.{GoBy};
 ghost use Rattle.drawing.specs.Reads.{reading};
-ghost use Rattle.notation.specs.Written.{fault_line, price_line, all_events, arrow_line, written, with_kinds};
+ghost use Rattle.notation.specs.Written.{event_lines, all_events, arrow_line, written};
 
 use drawing::{Arrow, Drawing, Event};
 use std::alloc::Global;
 use std::fmt;
 
-// The sort of fault that an event is, nothing for 0.
+// What is said of an event. The first line names it, so that events come in their order.
 #[derive(Clone, Copy)]
-struct FaultLine<'a> {
+struct EventLines<'a> {
     name: &'a str,
-    sort: u64,
+    sign: u64,
+    fault: bool,
 }
 
-impl fmt::Display for FaultLine<'_> {
-    ghost output = { λ x. Some (fault_line x.name.now x.sort) };
+impl fmt::Display for EventLines<'_> {
+    ghost output = { λ x. Some (event_lines x.name.now (record { sign = x.sign; fault = x.fault })) };
 
     fn fmt<W: fmt::Write>(&self, f: &mut fmt::Formatter<W>) -> fmt::Result {
         let name = self.name;
-        match self.sort {
-            0 => Ok(()),
-            1 => write!(f, "{name} fault\n"),
-            sort => write!(f, "{name} fault {sort}\n"),
+        let sign = self.sign;
+        if self.fault {
+            write!(f, "{name} shows {sign}\n{name} fault\n")
+        } else {
+            write!(f, "{name} shows {sign}\n")
         }
     }
 }
 
-#[derive(Clone, Copy)]
-struct PriceLine<'a> {
-    name: &'a str,
-    price: Option<u64>,
-}
-
-impl fmt::Display for PriceLine<'_> {
-    ghost output = { λ x. Some (price_line x.name.now x.price) };
-
-    fn fmt<W: fmt::Write>(&self, f: &mut fmt::Formatter<W>) -> fmt::Result {
-        let name = self.name;
-        match self.price {
-            Some(price) => write!(f, "{name} price {price}\n"),
-            None => Ok(()),
-        }
-    }
-}
-
-// What is said of each event, as far as there are both names and events. The first line names it, so that they come in their order.
 fn write_events(out: &mut String, names: &[String], events: &[Event]) -> fmt::Result
+    requires { length names.now ≡ length events.now }
     ensures { OnOk result (string_bytes out.new ≡ string_bytes out.old ++ all_events (map string_bytes names.now) (map kind events.now)) }
 {
-    for i in 0..names.len().min(events.len()) {
+    for i in 0..names.len() {
         let name = names[i].as_str();
         let event = events[i];
-        let sign = event.shown();
-        let fault = FaultLine {
+        let lines = EventLines {
             name,
-            sort: event.fault_sort(),
+            sign: event.shown(),
+            fault: event.fault,
         };
-        let price = PriceLine {
-            name,
-            price: event.price,
-        };
-        write!(out, "{name} shows {sign}\n{fault}{price}")?;
+        write!(out, "{lines}")?;
     }
     Ok(())
 }
@@ -82,11 +62,11 @@ fn write_arrows(out: &mut String, names: &[String], arrows: &[Arrow]) -> fmt::Re
     Ok(())
 }
 
-fn print(heap: Global, d: &Drawing, events: &[Event]) -> Result<String, fmt::Error>
-    ensures { IfOk result (λ s. string_bytes s ≡ written (with_kinds (drawn d.now) (map kind events.now))) }
+fn print(heap: Global, d: &Drawing) -> Result<String, fmt::Error>
+    ensures { IfOk result (λ s. string_bytes s ≡ written (drawn d.now)) }
 {
     let mut out = String::new(heap);
-    write_events(&mut out, d.names(), events)?;
+    write_events(&mut out, d.names(), d.events())?;
     write_arrows(&mut out, d.names(), d.arrows())?;
     Ok(out)
 }
@@ -96,12 +76,5 @@ pub fn write(heap: Global, d: &Drawing) -> Result<String, fmt::Error>
     ensures text { IfOk result (λ s. string_bytes s ≡ written (drawn d.now)) }
     ensures back { IfOk result (λ s. reading (string_bytes s) ≡ Ok (drawn d.now)) }
 {
-    print(heap, d, d.events())
-}
-
-// The text of the same drawing with these events in place of its own. What is past the names is left out; where there are fewer, no line says anything of the others. An error is want of memory.
-pub fn write_with(heap: Global, d: &Drawing, events: &[Event]) -> Result<String, fmt::Error>
-    ensures { IfOk result (λ s. string_bytes s ≡ written (with_kinds (drawn d.now) (map kind events.now))) }
-{
-    print(heap, d, events)
+    print(heap, d)
 }

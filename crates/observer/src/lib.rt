@@ -1,4 +1,6 @@
 // The observer: which states may have been reached, with a fault or without one, by the runs that show the signs so far.
+#![tactic(auto)]
+
 mod entry;
 mod follower;
 mod marks;

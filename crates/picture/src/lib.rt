@@ -1,4 +1,6 @@
 // A drawing as a picture: the text that Graphviz makes one of.
+#![tactic(auto)]
+
 mod edges;
 mod runs;
 mod texts;

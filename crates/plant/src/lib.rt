@@ -1,4 +1,6 @@
 // Plants: what they are, which numbers make one, and what holds of every one.
+#![tactic(auto)]
+
 mod lent;
 mod parts;
 #[cfg(test)]

@@ -1,4 +1,6 @@
 // Foretelling the faults of a plant: whether signs shown before each fault leave no run that goes on without one.
+#![tactic(auto)]
+
 mod calm;
 mod entry;
 mod foresight;

@@ -1,4 +1,6 @@
 // Random numbers that are the same at every run, for the programs that try what they make: Marsaglia's xorshift.
+#![tactic(auto)]
+
 #[derive(Drop)]
 pub struct Random {
     state: u64,

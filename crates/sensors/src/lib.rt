@@ -1,4 +1,6 @@
 // What to show: of events that show nothing, a cheapest set to be made visible so that every fault comes out.
+#![tactic(auto)]
+
 mod checks;
 mod choice;
 mod entry;

@@ -1,4 +1,6 @@
 // Sets of states and of pairs of states, as bits of words and by value.
+#![tactic(auto)]
+
 mod pair_set;
 mod rows;
 mod state_set;

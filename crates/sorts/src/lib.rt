@@ -1,4 +1,6 @@
 // Sorts of faults: a plant judged and followed as if the faults of one sort were its only ones, and what that has to do with faults altogether.
+#![tactic(auto)]
+
 mod checks;
 mod entries;
 mod held;

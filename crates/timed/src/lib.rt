@@ -1,4 +1,6 @@
 // The entries as functions that a Rust program can link, for measuring them beside plain Rust (bench/run). They promise nothing of their own: bench/run compares each answer with plain Rust's before it measures.
+#![tactic(auto)]
+
 use diagnosability::{Verdict, judge};
 use observer::{Follower, Word, follow};
 use plant::{Plant, check};

@@ -1,4 +1,6 @@
 // What holds of one plant under two views. Each theorem is the promise of a function that does nothing: without its proof the crate is not proved.
+#![tactic(auto)]
+
 ghost use Rattle.views.specs.Shown.{ShownMore, ShownSome};
 ghost use Rattle.views.specs.Views.{FinerOut, Renaming};
 

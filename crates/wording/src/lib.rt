@@ -1,4 +1,6 @@
 // How answers are worded: rows of events, verdicts, and why a text has no answer.
+#![tactic(auto)]
+
 mod rows;
 mod sentences;
 mod troubles;

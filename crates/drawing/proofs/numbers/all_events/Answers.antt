@@ -6,7 +6,7 @@ use Rattle.drawing.proofs.Rows.{row_more, row_all, joined-map}
 use Rattle.drawing.proofs.numbers.all_events.Goals as goal
 
 pub loop-e-preserved : goal.loop-e-preserved
-loop-e-preserved c = row_more (λ e. two c.args.most (kind e)) c.args.events.now c.loop-e.e-index (vec_items c.loop-e.numbers) c.loop-e.invariant unsaid _ c.loop-e-test.true c.in-ok-push-event.ensures
+loop-e-preserved c = row_more (λ e. two (kind e)) c.args.events.now c.loop-e.e-index (vec_items c.loop-e.numbers) c.loop-e.invariant unsaid _ c.loop-e-test.true c.in-ok-push-event.ensures
 
 pub returns : goal.returns
-returns c = row_all (λ e. two c.args.most (kind e)) c.args.events.now c.loop-e.e-index (vec_items c.loop-e.numbers) c.loop-e.invariant (omega arith) ∙ joined-map (two c.args.most) kind c.args.events.now
+returns c = row_all (λ e. two (kind e)) c.args.events.now c.loop-e.e-index (vec_items c.loop-e.numbers) c.loop-e.invariant (omega arith) ∙ joined-map two kind c.args.events.now

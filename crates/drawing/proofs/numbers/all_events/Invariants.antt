@@ -5,4 +5,4 @@ use Rattle.drawing.specs.Numbers.{two}
 use Rattle.drawing.proofs.numbers.all_events.Given as goal
 
 abbrev pub invariant-loop-e : goal.invariant-loop-e
-invariant-loop-e l = vec_items l.numbers ≡ flat_map (λ e. two l.most (kind e)) (take l.e-index l.events)
+invariant-loop-e l = vec_items l.numbers ≡ flat_map (λ e. two (kind e)) (take l.e-index l.events)

@@ -9,12 +9,11 @@ pub loop-i-preserved : goal.loop-i-preserved
 loop-i-preserved c =
     let e = get_or c.args.events.now c.loop-i.i unsaid in
     let x = c.index-names-i.result in
-    let next = events_more c.args.names.now c.args.events.now c.loop-i.i x unsaid (omega (arith, c.min-i-end.ensures)) (omega (arith, c.min-i-end.ensures)) c.index-names-i.is in
+    let next = events_more c.args.names.now c.args.events.now c.loop-i.i x unsaid c.loop-i-test.true c.requires c.index-names-i.is in
     let name = c.as-str-name.ensures.value in
-    let sign = c.shown-sign.ensures in
-    let sort = c.fault-sort.ensures in
+    let sign = c.shown.ensures in
     onward (string_bytes c.loop-i.out) (event_lines (string_bytes x) (kind e)) _ _ _ _ c.loop-i.invariant next
-    (c.in-ok-write.ensures.bytes ∙ (λ j. string_bytes c.loop-i.out ++ event_lines (name j) (record { sign = sign j; sort = sort j; price = e.price })))
+    (c.in-ok-write.ensures.bytes ∙ (λ j. string_bytes c.loop-i.out ++ event_lines (name j) (record { sign = sign j; fault = e.fault })))
 
 pub returns : goal.returns
-returns c = finished (string_bytes c.loop-i.out) _ _ c.loop-i.invariant (events_all c.args.names.now c.args.events.now c.loop-i.i (omega (arith, c.min-i-end.ensures)))
+returns c = finished (string_bytes c.loop-i.out) _ _ c.loop-i.invariant (events_all c.args.names.now c.args.events.now c.loop-i.i c.loop-i-test.false)

@@ -1,0 +1,43 @@
+// The built-in worked plants. Event 0 is a fault and shows nothing, 1 shows 1, 2 shows 2.
+
+#[derive(Clone, Copy)]
+pub struct Drawing {
+    pub states: u64,
+    pub arrows: &'static [u16],
+    pub events: &'static [u16],
+    pub names: &'static [&'static str],
+}
+
+const EVENTS: &[u16] = &[0, 1, 1, 0, 2, 0];
+
+const NAMES: &[&str] = &["break", "one", "two"];
+
+fn with_events(states: u64, arrows: &'static [u16]) -> Option<Drawing> {
+    Some(Drawing {
+        states,
+        arrows,
+        events: EVENTS,
+        names: NAMES,
+    })
+}
+
+// The plant of that name.
+pub fn find(name: &str) -> Option<Drawing> {
+    match name {
+        // Behind the fault 1 is shown once more, and then only 2.
+        "told" => with_events(3, &[0, 0, 1, 1, 1, 2, 2, 2, 2, 0, 1, 0]),
+        // Behind the fault only 1 is shown, as before it.
+        "untold" => with_events(2, &[0, 0, 1, 1, 1, 1, 0, 1, 0]),
+        // As `told`, with 1 shown twice more.
+        "later" => with_events(4, &[0, 0, 1, 1, 1, 2, 2, 1, 3, 3, 2, 3, 0, 1, 0]),
+        // No fault can happen.
+        "sound" => with_events(2, &[0, 1, 0, 0, 2, 1]),
+        // Nothing comes after the fault.
+        "still" => with_events(2, &[0, 0, 1, 0, 1, 0]),
+        // One event comes after the fault.
+        "brief" => with_events(3, &[0, 0, 1, 1, 1, 2, 0, 1, 0]),
+        // The last arrow leads to a state that is not there.
+        "broken" => with_events(2, &[0, 0, 1, 0, 1, 2]),
+        _ => None,
+    }
+}
