@@ -3,7 +3,7 @@ use Rattle.std.proofs.Common.{◌≡◌, ℕ, ◌-◌, Bool, true, ◌&&◌, ◌
 use Rattle.graph.specs.Member.{here, there}
 use Rattle.plant.specs.Plant.{Run, stands, goes, seen, faulty, May, ComesOutIn}
 use Rattle.plant.specs.Numbers.{arrows_in, plant_in}
-use Rattle.plant.specs.Worked.{told, ToldPlant, untold, HiddenPlant}
+use Rattle.plant.specs.Worked.{told, ToldPlant, HiddenPlant}
 use Rattle.plant.proofs.States.{below}
 use Rattle.plant.proofs.Table.{all_of, implies, fits, lefts_fit, rights_fit, boths_fit, low_rank, ends_below, checks, table_out}
 

@@ -1,5 +1,5 @@
 -- What a checked plant stands for, and what is read of it. These are definitions and assume nothing.
-use Rattle.std.specs.Prelude.{◌≡◌, ℕ, ◌+◌, ◌*◌, ◌/◌, ◌<◌, false, List, map, length, slice_index_or}
+use Rattle.std.specs.Prelude.{◌≡◌, ℕ, ◌/◌, ◌<◌, false, List, map, length, slice_index_or}
 use Rattle.plant.specs.declared.lent.Plant.{Plant as Lent}
 use Rattle.plant.specs.declared.parts.Arrow.{Arrow}
 use Rattle.plant.specs.declared.parts.Event.{Event}

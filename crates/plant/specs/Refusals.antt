@@ -1,5 +1,5 @@
 -- Which numbers are turned away, by which rule and at which place: the rules in their order. These are definitions and assume nothing.
-use Rattle.std.specs.Prelude.{◌≡◌, ℕ, suc, ◌-◌, ◌/◌, ◌%◌, Bool, cond, ◌&&◌, ◌||◌, List, [], ◌∷◌, length, Some, None, Option, ◌==◌, nat_le, nat_lt, slice_index}
+use Rattle.std.specs.Prelude.{ℕ, suc, ◌-◌, ◌/◌, ◌%◌, cond, ◌&&◌, List, [], ◌∷◌, length, Some, None, Option, ◌==◌, nat_le, nat_lt, slice_index}
 use Rattle.std.specs.Option.{option_map}
 use Rattle.plant.specs.declared.parts.Refusal.{Refusal}
 use Rattle.plant.specs.declared.parts.Refusal.TheVariants.{States, Events, Arrows, Room, Memory, Text, Sorts, Candidates, Labelling}

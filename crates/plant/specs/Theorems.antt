@@ -1,5 +1,5 @@
 -- What holds of every plant: statements, each the promise of a function of its name. They assume nothing.
-use Rattle.std.specs.Prelude.{◌≡◌, ℕ, ◌+◌, ◌*◌, ◌<◌, ◌≤◌, true, false, ◌⊎◌, List, ◌∷◌, length}
+use Rattle.std.specs.Prelude.{◌≡◌, ℕ, ◌+◌, ◌*◌, ◌<◌, ◌≤◌, false, ◌⊎◌, List, ◌∷◌, length}
 use Rattle.graph.specs.Member.{Among}
 use Rattle.plant.specs.declared.parts.Arrow.{Arrow}
 use Rattle.plant.specs.Plant.{Plant, Known, bad, May, Knows, ComesOutIn, ComesOut, Hides}

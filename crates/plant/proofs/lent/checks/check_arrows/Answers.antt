@@ -3,9 +3,9 @@ use Rattle.std.proofs.lemmas.Bool.Decides.{nat_tests}
 use Rattle.plant.specs.Refusals.{arrows_refusal}
 use Rattle.plant.proofs.lent.checks.check_arrows.Goals as goal
 
-pub returns-then-arrows-gt-MOST-ARROW-NUMBERS : goal.returns-then-arrows-gt-MOST-ARROW-NUMBERS
+pub returns-then-arrows-gt-MOST_ARROW_NUMBERS : goal.returns-then-arrows-gt-MOST_ARROW_NUMBERS
 unfolding arrows_refusal
-returns-then-arrows-gt-MOST-ARROW-NUMBERS c = grind (arith, nat_tests)
+returns-then-arrows-gt-MOST_ARROW_NUMBERS c = grind (arith, nat_tests)
 
 pub returns-then-rest-ne0 : goal.returns-then-rest-ne0
 unfolding arrows_refusal

@@ -3,9 +3,9 @@ use Rattle.std.proofs.lemmas.Bool.Decides.{nat_tests}
 use Rattle.plant.specs.Refusals.{events_refusal}
 use Rattle.plant.proofs.lent.checks.check_events.Goals as goal
 
-pub returns-then-events-gt-MOST-EVENT-NUMBERS : goal.returns-then-events-gt-MOST-EVENT-NUMBERS
+pub returns-then-events-gt-MOST_EVENT_NUMBERS : goal.returns-then-events-gt-MOST_EVENT_NUMBERS
 unfolding events_refusal
-returns-then-events-gt-MOST-EVENT-NUMBERS c = grind (arith, nat_tests)
+returns-then-events-gt-MOST_EVENT_NUMBERS c = grind (arith, nat_tests)
 
 pub returns-then-events-ne0 : goal.returns-then-events-ne0
 unfolding events_refusal

@@ -1,4 +1,4 @@
-use Rattle.std.proofs.Common.{◌≡◌, ◌+◌, ◌%◌, ◌<◌, ◌≤◌, length, get_or, sym, ◌∙◌, arith}
+use Rattle.std.proofs.Common.{◌+◌, ◌<◌, ◌≤◌, length, get_or, sym, ◌∙◌, arith}
 use Rattle.plant.proofs.Limits.{over_here, over_later, over_nowhere, place_on, place_again}
 use Rattle.plant.proofs.lent.checks.first_over.Goals as goal
 use Rattle.plant.proofs.lent.checks.first_over.Goals.{then-place-limits, else-place-limits}

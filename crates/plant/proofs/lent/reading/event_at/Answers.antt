@@ -3,8 +3,8 @@ use Rattle.plant.specs.Numbers.{plant_in}
 use Rattle.plant.proofs.Readings.{valid}
 use Rattle.plant.proofs.lent.reading.event_at.Goals as goal
 
-pub overflow-cast-result : goal.overflow-cast-result
-overflow-cast-result c = omega (arith, (valid c.args.plant).signs c.args.e c.if-e-plant.false)
+pub overflow_cast-result : goal.overflow_cast-result
+overflow_cast-result c = omega (arith, (valid c.args.plant).signs c.args.e c.if-e-plant.false)
 
 pub returns : goal.returns
 unfolding plant_in
