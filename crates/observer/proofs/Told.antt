@@ -6,7 +6,7 @@ use Rattle.plant.specs.Plant.{Plant, bad, good, either, neither, May, Knows}
 use Rattle.observer.specs.declared.memory.Memory.{Memory}
 use Rattle.observer.specs.declared.words.Word.{Word}
 use Rattle.observer.specs.declared.words.Word.TheVariants.{Bad, Good, Either, Neither, Refused}
-use Rattle.observer.specs.Marks.{holds, Has, Comes, Right}
+use Rattle.observer.specs.Marks.{holds, Comes, Right}
 use Rattle.observer.specs.Words.{word_of, word_known, Said, Tells, SomeMarked}
 
 -- the same of two choices that come to the same

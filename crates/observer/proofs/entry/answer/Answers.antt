@@ -5,13 +5,13 @@ use Rattle.observer.proofs.Followed.{followed_right}
 use Rattle.observer.proofs.Turned.{checked_err, checked_ok, follow_passed, says_passed, says_refused}
 use Rattle.observer.proofs.entry.answer.Goals as goal
 
-pub overflow-cast-sign : goal.overflow-cast-sign
-overflow-cast-sign c =
+pub overflow_cast-sign : goal.overflow_cast-sign
+overflow_cast-sign c =
     let passed = follow_passed c.args.states c.args.arrows.now c.args.events.now c.args.memory.now c.args.sign (checked_ok _ c.in-Ok.ensures) in
     omega (arith, passed.sign)
 
-pub go-on-requires : goal.go-on-requires
-go-on-requires c =
+pub go_on-requires : goal.go_on-requires
+go_on-requires c =
     let passed = follow_passed c.args.states c.args.arrows.now c.args.events.now c.args.memory.now c.args.sign (checked_ok _ c.in-Ok.ensures) in
     rw c.new.ensures.0 passed.sized
 
@@ -20,8 +20,8 @@ returns-in-Ok c =
     let refusal = follow_refusal c.args.states c.args.arrows.now c.args.events.now c.args.memory.now c.args.sign in
     let made = c.new.ensures in
     record {
-      says = says_passed refusal c.new.result.states c.args.states c.new.result.arrows.now c.args.arrows.now c.new.result.events.now c.args.events.now c.args.memory.now c.args.sign c.go-on.result c.go-on.new.memory
-          (checked_ok refusal c.in-Ok.ensures) made.0 made.1 made.2 c.go-on.ensures;
+      says = says_passed refusal c.new.result.states c.args.states c.new.result.arrows.now c.args.arrows.now c.new.result.events.now c.args.events.now c.args.memory.now c.args.sign c.go_on.result c.go_on.new.memory
+          (checked_ok refusal c.in-Ok.ensures) made.0 made.1 made.2 c.go_on.ensures;
       known = followed_right;
     }
 

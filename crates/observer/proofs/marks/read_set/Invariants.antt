@@ -1,4 +1,4 @@
-use Rattle.std.proofs.Common.{◌≡◌, ℕ, ◌<◌, ◌&&◌, eqb, ltb, get_or}
+use Rattle.std.proofs.Common.{◌≡◌, ℕ, ◌&&◌, eqb, ltb, get_or}
 use Rattle.sets.specs.Sets.{member}
 use Rattle.observer.proofs.marks.read_set.Given as goal
 
