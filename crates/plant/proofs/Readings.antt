@@ -1,7 +1,7 @@
 -- What is read of a plant that was checked. Assumes nothing.
 use Rattle.std.proofs.Common.{◌≡◌, ℕ, zero, suc, ◌*◌, ◌/◌, ◌<◌, List, [], ◌∷◌, length, get_or, sym, refl, ◌∙◌, subst, arith}
 use lib.ListN.{length-map}
-use Rattle.std.specs.List.{AllByRecursion as All}
+use Rattle.std.specs.List.{AllByRecursion}
 use Rattle.std.proofs.ByRecursion.{All-get_or}
 use Rattle.std.proofs.lemmas.List.{get_or-map}
 use Rattle.graph.specs.Member.{Among, here, there}
@@ -22,7 +22,7 @@ among_get_or [] i d h = absurd (omega arith)
 among_get_or (x ∷ xs) zero d h = here xs
 among_get_or (x ∷ xs) (suc i) d h = there x xs (among_get_or xs i d (omega arith))
 
-pub all_among : {A : Type 0} (P : A → Type 0) {x : A} {xs : List A} → All P xs → Among x xs → P x
+pub all_among : {A : Type 0} (P : A → Type 0) {x : A} {xs : List A} → AllByRecursion P xs → Among x xs → P x
 all_among P h (here xs) = h.0
 all_among P h (there y xs m) = all_among P h.1 m
 
@@ -77,7 +77,7 @@ module _ (p : Lent) where
       (among_get_or (model p).arrows i no_arrow h, refl, refl)
 
   -- what holds of all steps holds of the plant's
-  pub all_goes : (P : Step → Type 0) → All P (steps p) → (e s u : ℕ) → Goes (model p) e s u → P (step_of (model p) (record { from = s; event = e; to = u }))
+  pub all_goes : (P : Step → Type 0) → AllByRecursion P (steps p) → (e s u : ℕ) → Goes (model p) e s u → P (step_of (model p) (record { from = s; event = e; to = u }))
   unfolding steps
   all_goes P all e s u g = all_among P all (among_map (step_of (model p)) g)
 

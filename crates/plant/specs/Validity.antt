@@ -1,6 +1,6 @@
 -- Which numbers make a plant, said of its states, events and arrows. These are definitions and a statement; they assume nothing.
 use Rattle.std.specs.Prelude.{◌≡◌, ℕ, ◌+◌, ◌*◌, ◌/◌, ◌<◌, ◌≤◌, List, length, None, slice_index}
-use Rattle.std.specs.List.{AllByRecursion as All}
+use Rattle.std.specs.List.{AllByRecursion}
 use Rattle.plant.specs.declared.parts.Arrow.{Arrow}
 use Rattle.plant.specs.Numbers.{arrows_in}
 use Rattle.plant.specs.Refusals.{refusal}
@@ -20,7 +20,7 @@ pub record Valid (n : ℕ) (xs es : List ℕ) : Type 0 where
   pub marks : (e : ℕ) → e < length es / 2 → slice_index es (2 * e + 1) ≤ 1
   pub whole_arrows : length xs ≡ 3 * length (arrows_in xs)
   pub few_arrows : length (arrows_in xs) ≤ 1024
-  pub fits : All (Fits n (length es / 2)) (arrows_in xs)
+  pub fits : AllByRecursion (Fits n (length es / 2)) (arrows_in xs)
 
 -- no rule turns the numbers away if and only if they make a plant
 abbrev pub RefusedOrValid : Type 0
