@@ -11,7 +11,7 @@ use Rattle.drawing.specs.declared.shape.Arrow.{Arrow}
 use Rattle.drawing.specs.declared.shape.Event.{Event}
 use Rattle.drawing.specs.Drafted.{Drafted, drafted, blank_sheet, place, number, unsaid, mentioned, put}
 use Rattle.drawing.specs.Drawn.{Drawn, Kind, kind, drawn}
-use Rattle.drawing.specs.Fine.{Apart, GoesBy, GoBy, Short-sign, no_arrow}
+use Rattle.drawing.specs.Fine.{Apart, GoesBy, GoBy, ShortSign, no_arrow}
 use Rattle.drawing.specs.Lines.{lines}
 use Rattle.drawing.specs.Reads.{put_said, if_read, read_from, drafting, completed, reading}
 use Rattle.drawing.proofs.Fines.{all_from, place_last}
@@ -147,7 +147,7 @@ round_trip d =
     let ks = (drawn d).kinds in
     let ys = (drawn d).ways in
     let names = all_from (λ w. is_name w ≡ true) ws [] d.spelled in
-    let signs = All-map (λ k. k.sign < 10 ^ 18) kind (drafted d.draft).kinds (all_from Short-sign (drafted d.draft).kinds unsaid d.signs) in
+    let signs = All-map (λ k. k.sign < 10 ^ 18) kind (drafted d.draft).kinds (all_from ShortSign (drafted d.draft).kinds unsaid d.signs) in
     let long : length ws ≡ length ks = d.level ∙ sym (length-map (drafted d.draft).kinds kind) in
     let events = goes_events [] ws [] ks refl long d.few names signs d.apart in
     let arrows = goes_arrows ws (map settled ks) names d.apart d.few [] ys (all_from (GoesBy (length ws)) ys no_arrow d.ways) in
