@@ -1,5 +1,5 @@
 -- What is read is fine. Assumes nothing.
-use Rattle.std.proofs.Common.{◌≡◌, ℕ, zero, suc, ◌+◌, ◌^◌, ◌<◌, ◌≤◌, min, Bool, true, false, cond, ◌&&◌, ◌||◌, ltb, leb, List, [], ◌∷◌, ◌++◌, length, get_or, set, Some, None, Ok, Err, codes, Option, Result, sym, refl, ap, ◌∙◌, subst, inl, inr, arith}
+use Rattle.std.proofs.Common.{◌≡◌, ℕ, suc, ◌+◌, ◌^◌, ◌<◌, ◌≤◌, min, Bool, true, false, cond, ◌&&◌, ◌||◌, ltb, leb, List, [], ◌∷◌, ◌++◌, length, get_or, set, Some, None, Ok, codes, Option, Result, sym, refl, ap, ◌∙◌, subst, inl, inr, arith}
 use Rattle.std.specs.Option.{option_map}
 use Rattle.std.specs.List.{AllByRecursion}
 use Rattle.std.specs.Str.{all_ascii_digits, bytes_eq}
@@ -7,15 +7,15 @@ use Rattle.std.proofs.ByRecursion.{All-push, All-set, All-weaker, All-get_or}
 use Rattle.std.proofs.lemmas.Slice.Eq.{bytes_eq-Decides}
 use Rattle.std.proofs.lemmas.List.{get_or_append_left, get_or_push, length_push, length-set}
 use Rattle.std.proofs.lemmas.Str.Parse.{digits_value_short}
-use Rattle.std.proofs.lemmas.Bool.{cases_Bool, cases_lt, and_parts, or_parts, leb-true, ltb-true, ltb-false}
+use Rattle.std.proofs.lemmas.Bool.{cases_Bool, cases_lt, and_parts, leb-true}
 use Rattle.std.proofs.lemmas.Bool.Decides.{nat_tests}
-use Rattle.grammar.specs.Line.{Said, nothing, arrow, fault, shows, is_name, is_text, numeral, read_on, from_state, two_words, three_words, of_words, before_comment, of_text, of_line}
+use Rattle.grammar.specs.Line.{Said, nothing, arrow, fault, shows, is_name, is_text, numeral, read_on, from_state, two_words, three_words, of_words, before_comment, of_line}
 use Rattle.grammar.specs.Words.{words}
 use Rattle.grammar.proofs.Numbers.{own}
 use Rattle.drawing.specs.declared.shape.Arrow.{Arrow}
 use Rattle.drawing.specs.declared.shape.Event.{Event}
 use Rattle.drawing.specs.Drafted.{Drafted, blank_sheet, place, number, unsaid, mentioned, clash, put}
-use Rattle.drawing.specs.Fine.{Fine, sign_of, no_arrow, Short-sign, GoesBy}
+use Rattle.drawing.specs.Fine.{Fine, no_arrow, ShortSign, GoesBy}
 use Rattle.drawing.specs.Lines.{lines}
 use Rattle.drawing.specs.Reads.{put_said, added, if_read, read_from, drafting}
 use Rattle.drawing.proofs.Places.{place_le}
@@ -91,7 +91,7 @@ pub record EachFine (d : Drafted) : Type 0 where
   pub apart : (i : ℕ) → i < length d.labels → place d.labels (get_or d.labels i []) ≡ i
   pub few : length d.labels ≤ 66
   pub level : length d.labels ≡ length d.kinds
-  pub signs : AllByRecursion Short-sign d.kinds
+  pub signs : AllByRecursion ShortSign d.kinds
   pub arrows : AllByRecursion (GoesBy (length d.labels)) d.ways
 
 pub fine_each : (d : Drafted) → Fine d → EachFine d
@@ -105,7 +105,7 @@ each_fine d f =
       apart = f.apart;
       few = f.few;
       level = f.level;
-      signs = λ i lt. All-get_or Short-sign d.kinds i unsaid lt f.signs;
+      signs = λ i lt. All-get_or ShortSign d.kinds i unsaid lt f.signs;
       arrows = λ i lt. All-get_or (GoesBy (length d.labels)) d.ways i no_arrow lt f.arrows;
     }
 
@@ -162,7 +162,7 @@ fine_mentioned d w name fine =
           )
     ]
 
-fine_set : (d : Drafted) (i : ℕ) (e : Event) → Short-sign e → EachFine d → EachFine (record { labels = d.labels; kinds = set d.kinds i e; ways = d.ways })
+fine_set : (d : Drafted) (i : ℕ) (e : Event) → ShortSign e → EachFine d → EachFine (record { labels = d.labels; kinds = set d.kinds i e; ways = d.ways })
 fine_set d i e short fine =
     record { spelled = fine.spelled; apart = fine.apart; few = fine.few; level = fine.level ∙ sym (length-set d.kinds i e); signs = All-set _ d.kinds i e short fine.signs; arrows = fine.arrows }
 
@@ -176,7 +176,7 @@ fine_put d (fault w) after good fine h =
     let k = fine_mentioned d w good fine in
     let e = mentioned d w in
     let i = number d.labels w in
-    subst EachFine (same_some _ _ h) (fine_set e i _ (All-get_or Short-sign e.kinds i unsaid (omega (arith, k.0.level, k.1)) k.0.signs) k.0)
+    subst EachFine (same_some _ _ h) (fine_set e i _ (All-get_or ShortSign e.kinds i unsaid (omega (arith, k.0.level, k.1)) k.0.signs) k.0)
 fine_put d (shows w n) after good fine h =
     let k = fine_mentioned d w good.0 fine in
     let e = mentioned d w in

@@ -1,12 +1,12 @@
 -- A search for a name, one name more. Assumes nothing.
-use Rattle.std.proofs.Common.{◌≡◌, ℕ, ◌+◌, ◌<◌, ◌≤◌, min, true, false, cond, ◌||◌, ltb, List, [], ◌∷◌, ◌++◌, map, length, get_or, drop, None, vec_items, vec_len, string_bytes, String, sym, refl, ap, ◌∙◌, inl, inr, arith}
+use Rattle.std.proofs.Common.{◌≡◌, ℕ, ◌+◌, ◌<◌, ◌≤◌, min, true, false, cond, List, [], ◌∷◌, ◌++◌, map, length, get_or, drop, vec_items, vec_len, string_bytes, String, sym, ap, ◌∙◌, inl, inr, arith}
 use Rattle.std.specs.declared.alloc.Global.{Global}
 use Rattle.std.specs.Str.{bytes_eq}
 use Rattle.std.proofs.lemmas.Slice.Eq.{bytes_eq-Decides}
 use Rattle.std.proofs.lemmas.List.{at_drop_more, at_drop_all, get_or-map, length-map, length_push, map_push}
 use Rattle.std.proofs.lemmas.Bool.{cases_Bool, lt-ltb, le-ltb}
 use Rattle.drawing.specs.declared.shape.Draft.{Draft}
-use Rattle.drawing.specs.Drafted.{Drafted, drafted, Level, place, number, unsaid, mentioned, Mentioned}
+use Rattle.drawing.specs.Drafted.{drafted, Level, place, unsaid, Mentioned}
 
 module _ (ws : List (List ℕ)) (w : List ℕ) (i : ℕ) where
   step : i < length ws → place (drop i ws) w ≡ cond (bytes_eq (get_or ws i []) w) 0 (1 + place (drop (i + 1) ws) w)

@@ -1,5 +1,5 @@
 -- A text, one line more. Assumes nothing.
-use Rattle.std.proofs.Common.{◌≡◌, ℕ, ◌+◌, List, [], ◌∷◌, Some, None, Ok, Err, sym, refl, ap, ◌∙◌}
+use Rattle.std.proofs.Common.{◌≡◌, ℕ, ◌+◌, List, ◌∷◌, Some, None, Ok, Err, sym, ap, ◌∙◌}
 use Rattle.drawing.specs.declared.reads.ReadError.{ReadError}
 use Rattle.drawing.specs.declared.reads.ReadError.TheVariants.{Line, Memory}
 use Rattle.drawing.specs.Added.{Outcome}

@@ -1,5 +1,5 @@
 -- Numbers in a row, one element more. Assumes nothing.
-use Rattle.std.proofs.Common.{◌≡◌, ℕ, ◌+◌, ◌^◌, ◌<◌, ◌≤◌, max, List, [], ◌∷◌, ◌++◌, map, length, get_or, take, drop, sym, refl, ap, ◌∙◌, inl, inr, append_assoc, arith}
+use Rattle.std.proofs.Common.{◌≡◌, ℕ, ◌+◌, ◌^◌, ◌<◌, ◌≤◌, max, List, [], ◌∷◌, ◌++◌, map, length, get_or, take, sym, refl, ap, ◌∙◌, append_assoc, arith}
 use Rattle.std.specs.List.{flat_map, AllByRecursion}
 use Rattle.std.proofs.lemmas.List.{take_more, take_all, flat_map_more}
 use Rattle.drawing.specs.declared.shape.Arrow.{Arrow}
@@ -20,9 +20,9 @@ module _ {X : Type 0} (f : X → List ℕ) (xs : List X) (i : ℕ) (o : List ℕ
   pub row_all : length xs ≤ i → o ≡ flat_map f xs
   row_all le = so_far ∙ ap (flat_map f) (take_all i xs le)
 
-pub joined-map : {X Y : Type 0} (f : Y → List ℕ) (g : X → Y) (xs : List X) → flat_map (λ x. f (g x)) xs ≡ flat_map f (map g xs)
-joined-map f g [] = refl
-joined-map f g (x ∷ xs) = ap (λ l. f (g x) ++ l) (joined-map f g xs)
+pub flat_map-map : {X Y : Type 0} (f : Y → List ℕ) (g : X → Y) (xs : List X) → flat_map (λ x. f (g x)) xs ≡ flat_map f (map g xs)
+flat_map-map f g [] = refl
+flat_map-map f g (x ∷ xs) = ap (λ l. f (g x) ++ l) (flat_map-map f g xs)
 
 -- no state that is named is long
 short_from : (k n : ℕ) (ys : List Arrow) → n < 10 ^ 18 → AllByRecursion (GoesBy k) ys → greatest_from n ys < 10 ^ 18

@@ -22,11 +22,11 @@ abbrev pub Apart : List (List ℕ) → Type 0
 Apart ws = (i : ℕ) → i < length ws → place ws (slice_index_or ws i []) ≡ i
 
 -- 18 digits are enough for a number
-abbrev pub Short-sign : Event → Type 0
-Short-sign e = sign_of e.sign < 10 ^ 18
+abbrev pub ShortSign : Event → Type 0
+ShortSign e = sign_of e.sign < 10 ^ 18
 
-abbrev pub Short-signs : List Event → Type 0
-Short-signs es = (i : ℕ) → i < length es → Short-sign (slice_index_or es i unsaid)
+abbrev pub ShortSigns : List Event → Type 0
+ShortSigns es = (i : ℕ) → i < length es → ShortSign (slice_index_or es i unsaid)
 
 -- an arrow goes by one of n events
 abbrev pub GoesBy : ℕ → Arrow → Type 0
@@ -40,5 +40,5 @@ pub record Fine (d : Drafted) : Type 0 where
   pub apart : Apart d.labels
   pub few : length d.labels ≤ kept + 1
   pub level : length d.labels ≡ length d.kinds
-  pub signs : Short-signs d.kinds
+  pub signs : ShortSigns d.kinds
   pub arrows : GoBy (length d.labels) d.ways

@@ -1,7 +1,7 @@
 // What a whole text draws.
 ghost use Rattle.std.specs.Prelude.{◌≡◌, ◌+◌, ◌≤◌, length};
 ghost use Rattle.drawing.specs.Drafted.{drafted, kept};
-ghost use Rattle.drawing.specs.Fine.{Spelled, Apart, Short-signs, GoBy};
+ghost use Rattle.drawing.specs.Fine.{Spelled, Apart, ShortSigns, GoBy};
 
 use crate::shape::Draft;
 
@@ -13,6 +13,6 @@ pub struct Drawing {
     ghost apart: { Apart (drafted draft).labels },
     ghost few: { length (drafted draft).labels ≤ kept + 1 },
     ghost level: { length (drafted draft).labels ≡ length (drafted draft).kinds },
-    ghost signs: { Short-signs (drafted draft).kinds },
+    ghost signs: { ShortSigns (drafted draft).kinds },
     ghost ways: { GoBy (length (drafted draft).labels) (drafted draft).ways },
 }

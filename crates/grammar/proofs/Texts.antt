@@ -1,6 +1,6 @@
 -- The test of bytes for text is the library's notion of UTF-8. Assumes nothing.
-use Rattle.std.proofs.Common.{◌≡◌, ℕ, true, false, ◌&&◌, List, IsUtf8, sym, refl, ap, ◌∙◌, inl, inr}
-use Rattle.std.specs.Str.{chars, bytes_eq}
+use Rattle.std.proofs.Common.{◌≡◌, ℕ, true, false, List, IsUtf8, inl, inr}
+use Rattle.std.specs.Str.{chars}
 use Rattle.std.proofs.lemmas.Slice.Eq.{bytes_eq-Decides}
 use Rattle.std.proofs.lemmas.Bool.{cases_Bool, and_parts, and_from}
 use Rattle.std.proofs.lemmas.Str.{encodes-chars, scalars-chars}

@@ -1,5 +1,5 @@
 -- How a line is cut into words. These are definitions and assume nothing.
-use Rattle.std.specs.Prelude.{ℕ, ◌+◌, ◌<◌, Bool, true, false, cond, not, ◌&&◌, ◌||◌, List, [], ◌∷◌, ◌++◌, ◌==◌}
+use Rattle.std.specs.Prelude.{ℕ, Bool, cond, not, ◌||◌, List, [], ◌∷◌, ◌++◌, ◌==◌}
 
 -- a space, a tab, or the return that may stand before the end of a line
 abbrev pub blank : ℕ → Bool

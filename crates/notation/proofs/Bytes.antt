@@ -1,14 +1,14 @@
 -- Lines of plain words. Assumes nothing.
-use Rattle.std.proofs.Common.{◌≡◌, ℕ, zero, suc, ◌+◌, ◌^◌, ◌<◌, ◌≤◌, Bool, true, false, cond, not, ◌&&◌, eqb, ltb, leb, List, [], ◌∷◌, ◌++◌, length, get_or, Some, None, codes, IsAscii, decimal, Option, sym, refl, ap, ◌∙◌, inl, inr, append_assoc, append-nil, arith}
+use Rattle.std.proofs.Common.{◌≡◌, ℕ, zero, suc, ◌^◌, ◌<◌, Bool, true, false, not, ◌&&◌, eqb, ltb, List, [], ◌∷◌, ◌++◌, length, get_or, Some, codes, IsAscii, decimal, Option, sym, refl, ap, ◌∙◌, inl, inr, append_assoc, append-nil, arith}
 use Rattle.std.specs.Char.{is_ascii_digit, is_ascii_alphabetic}
-use Rattle.std.specs.Str.{all_ascii_digits, bytes_eq}
+use Rattle.std.specs.Str.{all_ascii_digits}
 use Rattle.std.proofs.lemmas.Fmt.{digits_decimal, digits_value-decimal, decimal_nonempty, length-decimal-le}
 use Rattle.std.proofs.lemmas.List.{get_or_past}
 use Rattle.std.proofs.lemmas.Bool.{cases_lt, and_parts, and_from, lt-ltb, le-leb, ltb-true, false≢true}
 use Rattle.std.proofs.lemmas.Str.{IsUtf8-from_ascii}
 use Rattle.std.proofs.lemmas.Bool.Decides.{nat_tests}
-use Rattle.grammar.specs.Line.{Said, nothing, arrow, fault, shows, before_comment, name_byte, every, is_name, numeral, read_on, is_text, of_words, of_text, of_line}
-use Rattle.grammar.specs.Words.{blank, dark, ended, words_from, words}
+use Rattle.grammar.specs.Line.{Said, nothing, arrow, fault, shows, before_comment, name_byte, every, is_name, numeral, is_text, of_words, of_line}
+use Rattle.grammar.specs.Words.{blank, dark, words_from, words}
 use Rattle.grammar.proofs.Lacking.{before_all}
 use Rattle.grammar.proofs.Numbers.{own}
 use Rattle.grammar.proofs.Texts.{text_is}

@@ -1,5 +1,5 @@
 -- A drawing's parts as they are lent. Assumes nothing.
-use Rattle.std.proofs.Common.{◌≡◌, ℕ, List, map, length, string_bytes, String, sym, ap, ◌∙◌, subst}
+use Rattle.std.proofs.Common.{◌≡◌, List, map, length, string_bytes, String, sym, ap, ◌∙◌}
 use Rattle.std.proofs.lemmas.List.{length-map}
 use Rattle.drawing.specs.declared.finished.Drawing.{Drawing}
 use Rattle.drawing.specs.declared.shape.Arrow.{Arrow}

@@ -1,10 +1,10 @@
 -- One event or arrow more. Assumes nothing.
-use Rattle.std.proofs.Common.{◌≡◌, ℕ, ◌+◌, ◌<◌, ◌≤◌, List, [], ◌∷◌, ◌++◌, map, length, get_or, drop, string_bytes, String, sym, refl, ap, ◌∙◌, append_assoc, append-nil, arith}
+use Rattle.std.proofs.Common.{◌≡◌, ℕ, ◌+◌, ◌<◌, ◌≤◌, List, [], ◌∷◌, ◌++◌, map, length, get_or, drop, string_bytes, String, sym, ap, ◌∙◌, append_assoc, append-nil, arith}
 use Rattle.std.specs.List.{flat_map}
 use Rattle.std.proofs.lemmas.List.{length-map, at_drop_more, at_drop_all, drop_more, get_or-map}
 use Rattle.drawing.specs.declared.shape.Arrow.{Arrow}
 use Rattle.drawing.specs.declared.shape.Event.{Event}
-use Rattle.drawing.specs.Drawn.{Kind, kind}
+use Rattle.drawing.specs.Drawn.{kind}
 use Rattle.notation.specs.Written.{event_lines, all_events, arrow_text, arrow_line}
 
 -- what is written, and then what is left

@@ -1,5 +1,5 @@
 -- What is written reads as what was drawn. Assumes nothing.
-use Rattle.std.proofs.Common.{◌≡◌, ℕ, ◌+◌, ◌^◌, ◌<◌, ◌≤◌, min, Bool, true, false, cond, ◌||◌, ltb, List, [], ◌∷◌, ◌++◌, map, length, get_or, set, Some, None, Ok, codes, decimal, sym, refl, ap, ◌∙◌, subst, inl, inr, append_assoc, append-nil, arith, length-append}
+use Rattle.std.proofs.Common.{◌≡◌, ℕ, ◌+◌, ◌^◌, ◌<◌, ◌≤◌, Bool, true, false, List, [], ◌∷◌, ◌++◌, map, length, get_or, Some, Ok, codes, decimal, sym, refl, ap, ◌∙◌, subst, inl, inr, append_assoc, append-nil, arith, length-append}
 use Rattle.std.specs.List.{flat_map, AllByRecursion}
 use Rattle.std.specs.Str.{bytes_eq}
 use Rattle.std.proofs.ByRecursion.{All-get_or, All-map}
@@ -9,15 +9,15 @@ use Rattle.grammar.specs.Line.{Said, arrow, fault, shows, is_name, of_line, ever
 use Rattle.drawing.specs.declared.finished.Drawing.{Drawing}
 use Rattle.drawing.specs.declared.shape.Arrow.{Arrow}
 use Rattle.drawing.specs.declared.shape.Event.{Event}
-use Rattle.drawing.specs.Drafted.{Drafted, drafted, blank_sheet, place, number, unsaid, mentioned, put}
-use Rattle.drawing.specs.Drawn.{Drawn, Kind, kind, drawn}
-use Rattle.drawing.specs.Fine.{Apart, GoesBy, GoBy, Short-sign, no_arrow}
+use Rattle.drawing.specs.Drafted.{Drafted, drafted, place, number, unsaid, put}
+use Rattle.drawing.specs.Drawn.{Kind, kind, drawn}
+use Rattle.drawing.specs.Fine.{Apart, GoesBy, ShortSign, no_arrow}
 use Rattle.drawing.specs.Lines.{lines}
 use Rattle.drawing.specs.Reads.{put_said, if_read, read_from, drafting, completed, reading}
 use Rattle.drawing.proofs.Fines.{all_from, place_last}
 use Rattle.drawing.proofs.Newlines.{lines_cut}
 use Rattle.drawing.proofs.Reading.{good_line}
-use Rattle.notation.specs.Written.{event_lines, all_events, arrow_text, arrow_line, written}
+use Rattle.notation.specs.Written.{event_lines, all_events, arrow_line, written}
 use Rattle.notation.proofs.Bytes.{clean, one_line, empty_says, shows_line, fault_line, arrow_line_reads}
 
 -- the lines bs lead from the draft d to e, whatever follows
@@ -147,7 +147,7 @@ round_trip d =
     let ks = (drawn d).kinds in
     let ys = (drawn d).ways in
     let names = all_from (λ w. is_name w ≡ true) ws [] d.spelled in
-    let signs = All-map (λ k. k.sign < 10 ^ 18) kind (drafted d.draft).kinds (all_from Short-sign (drafted d.draft).kinds unsaid d.signs) in
+    let signs = All-map (λ k. k.sign < 10 ^ 18) kind (drafted d.draft).kinds (all_from ShortSign (drafted d.draft).kinds unsaid d.signs) in
     let long : length ws ≡ length ks = d.level ∙ sym (length-map (drafted d.draft).kinds kind) in
     let events = goes_events [] ws [] ks refl long d.few names signs d.apart in
     let arrows = goes_arrows ws (map settled ks) names d.apart d.few [] ys (all_from (GoesBy (length ws)) ys no_arrow d.ways) in

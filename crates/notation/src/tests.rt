@@ -55,7 +55,7 @@ fn counts(rt: HostRuntime) -> Result<(), Fail> {
     let heap = rt.alloc();
     let (states, arrows, events) = numbers(heap, b"7 a 99999\nb shows 70000\nb fault")?;
     assert_eq!(rt; states, 100000);
-    assert!(rt; arrows.as_slice() == [7, 0, 65535]);
-    assert!(rt; events.as_slice() == [0, 0, 65535, 1]);
+    assert!(rt; arrows.as_slice() == [7, 0, 65535].as_slice());
+    assert!(rt; events.as_slice() == [0, 0, 65535, 1].as_slice());
     Ok(())
 }

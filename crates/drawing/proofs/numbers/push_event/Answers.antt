@@ -11,5 +11,5 @@ bit_is false = refl
 pub returns : goal.returns
 returns c =
     push_two (vec_items c.args.numbers.now) (vec_items c.push.new.self) _ _ _
-    (c.in-ok-push.ensures.items ∙ ap (λ n. vec_items c.args.numbers.now ++ (n ∷ [])) (c.capped.ensures ∙ ap capped c.shown.ensures))
-    (c.in-ok-push-2.ensures.items ∙ ap (λ n. vec_items c.push.new.self ++ (n ∷ [])) (c.from.ensures ∙ bit_is c.args.e.fault))
+    (c.in_ok-push.ensures.items ∙ ap (λ n. vec_items c.args.numbers.now ++ (n ∷ [])) (c.capped.ensures ∙ ap capped c.shown.ensures))
+    (c.in_ok-push-2.ensures.items ∙ ap (λ n. vec_items c.push.new.self ++ (n ∷ [])) (c.from.ensures ∙ bit_is c.args.e.fault))
