@@ -1,7 +1,7 @@
 -- All sets are met by their numbers, and a cheapest of these is a cheapest of all. Assumes nothing.
 use Rattle.std.proofs.Common.{◌≡◌, ℕ, zero, suc, ◌+◌, ◌*◌, ◌/◌, ◌%◌, ◌^◌, ◌<◌, ◌≤◌, min, Bool, true, false, cond, ◌&&◌, ◌||◌, eqb, List, [], ◌∷◌, length, get_or, replicate, sym, refl, ap, ◌∙◌, subst, inl, inr, ⊎_elim, true≢false, pow-suc, arith}
 use lib.Bits.{bit_and, and_step}
-use Rattle.std.specs.List.{AllByRecursion as All}
+use Rattle.std.specs.List.{AllByRecursion}
 use Rattle.std.proofs.lemmas.Bool.{cases_lt, or_cases, or_left, or_right, and_parts, and_from, eqb-true, eq-eqb, ne_eqb}
 use Rattle.plant.specs.Numbers.{plant_in}
 use Rattle.plant.specs.Plant.{Plant, ComesOut}
@@ -100,7 +100,7 @@ unfolding digits
 length_digits zero s = refl
 length_digits (suc k) s = ap suc (length_digits k (s / 2))
 
-digits_ones : (k s : ℕ) → All (λ m. m ≤ 1) (digits k s)
+digits_ones : (k s : ℕ) → AllByRecursion (λ m. m ≤ 1) (digits k s)
 unfolding digits
 digits_ones zero s = tt
 digits_ones (suc k) s = (omega arith, digits_ones k (s / 2))

@@ -1,6 +1,6 @@
 -- What a choice says of a plant, its candidates, and the row of marks that was lent. These are definitions and assume nothing.
 use Rattle.std.specs.Prelude.{◌≡◌, ℕ, ◌≤◌, List, length, Some, None, Option}
-use Rattle.std.specs.List.{AllByRecursion as All}
+use Rattle.std.specs.List.{AllByRecursion}
 use Rattle.plant.specs.declared.parts.Refusal.{Refusal}
 use Rattle.plant.specs.Plant.{Plant, ComesOut}
 use Rattle.plant.specs.Refusals.{number_of}
@@ -12,7 +12,7 @@ use Rattle.sensors.specs.Candidates.{chosen, cost}
 -- the marks choose a cheapest set, which costs the sum: with it shown, by any signs of its own (there are some), every fault comes out; and no set with which it does, by any signs, costs less
 pub record CheapestSet (p : Plant) (cs ps marks : List ℕ) (sum : ℕ) : Type 0 where
   pub long : length marks ≡ length cs
-  pub ones : All (λ m. m ≤ 1) marks
+  pub ones : AllByRecursion (λ m. m ≤ 1) marks
   pub costs : sum ≡ cost ps marks
   pub some : (q : Plant) × Shown p (chosen cs marks) q
   pub does : (q : Plant) → Shown p (chosen cs marks) q → ComesOut q
