@@ -1,5 +1,5 @@
 -- Rows laid at the front of a room, and rows laid behind them. Assumes nothing.
-use Rattle.std.proofs.Common.{◌≡◌, ℕ, ◌+◌, ◌-◌, ◌*◌, ◌<◌, ◌≤◌, List, length, take, drop, sym, refl, ap, ◌∙◌, subst, add-zero, add_assoc, arith}
+use Rattle.std.proofs.Common.{◌≡◌, ℕ, ◌+◌, ◌-◌, ◌*◌, ◌≤◌, List, length, take, drop, sym, ap, ◌∙◌, add-zero, add_assoc, arith}
 use borrow.Rule.Slice.PartMut.{put_mid}
 use Rattle.graph.specs.Walk.{labels}
 use Rattle.graph.specs.Product.{lefts, rights}

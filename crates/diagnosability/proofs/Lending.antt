@@ -1,7 +1,7 @@
 -- What a room holds after its part from place a on was lent to a writer that left ys there. Assumes nothing.
-use Rattle.std.proofs.Common.{◌≡◌, ℕ, ◌+◌, ◌-◌, ◌<◌, ◌≤◌, min, List, [], ◌++◌, length, take, drop, sym, refl, ap, ◌∙◌, subst, append-nil, arith, length-append, length-drop, length-take}
-use borrow.Rule.Slice.PartMut.{put_mid, post_of}
-use Rattle.std.proofs.lemmas.List.{take-append-le, take-take, take_at, drop_at, drop-drop, take_rest, drop-append-le, drop_all, length-take-le, drop-take}
+use Rattle.std.proofs.Common.{◌≡◌, ℕ, ◌+◌, ◌-◌, ◌≤◌, List, ◌++◌, length, take, drop, sym, ap, ◌∙◌, append-nil, arith, length-append, length-drop}
+use borrow.Rule.Slice.PartMut.{put_mid}
+use Rattle.std.proofs.lemmas.List.{take-take, take_at, drop_at, drop-drop, take_rest, drop_all, length-take-le, drop-take}
 use Rattle.diagnosability.specs.Verdict.{part}
 
 module _ (a : ℕ) (xs ys : List ℕ) (in' : a ≤ length xs) (same : length ys ≡ length (take (length xs - a) (drop a xs))) where
