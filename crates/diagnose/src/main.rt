@@ -5,12 +5,12 @@ mod following;
 mod judging;
 mod worked;
 
-use anyhow::anyhow;
 use following::{follow_input, follow_words};
 use judging::judge_all;
 use plant::{Plant, Refusal, check};
 use std::env;
 use std::env::Args;
+use std::process::ExitCode;
 use worked::Drawing;
 
 const USAGE: &str = "usage:
@@ -92,13 +92,13 @@ fn run(rt: &HostRuntime) -> anyhow::Result<bool> {
     }
 }
 
-fn main(rt: HostRuntime) -> anyhow::Result<()> {
+fn main(rt: HostRuntime) -> ExitCode {
     match run(&rt) {
-        Ok(true) => Ok(()),
-        Ok(false) => Err(anyhow!("turned away")),
+        Ok(true) => ExitCode::SUCCESS,
+        Ok(false) => ExitCode::FAILURE,
         Err(e) => {
             let _ = eprintln!(rt; "diagnose: {e}");
-            Err(e)
+            ExitCode::FAILURE
         }
     }
 }
