@@ -1,12 +1,12 @@
 -- An alarm stays, so only the last moment before a fault matters. Assumes nothing.
-use Rattle.std.proofs.Common.{◌≡◌, ℕ, ◌<◌, ◌≤◌, min, false, ◌⊎◌, List, [], ◌++◌, length, sym, refl, ap, ◌∙◌, subst, inl, inr, arith}
+use Rattle.std.proofs.Common.{◌≡◌, ℕ, ◌<◌, ◌≤◌, min, false, ◌⊎◌, List, [], ◌++◌, sym, refl, ap, ◌∙◌, subst, inl, inr, arith}
 use Rattle.std.proofs.lemmas.Bool.{cases_lt}
 use Rattle.plant.specs.Plant.{Plant, seen, faulty}
 use Rattle.plant.specs.Theorems.{Within}
 use Rattle.plant.proofs.Known.{cut_signs, fine_early, or_false_left}
 use Rattle.plant.proofs.Runs.{seen-append, faulty-append}
-use Rattle.foretelling.specs.Foretelling.{Goes_on, Lasts, Alarm, Foretells}
-use Rattle.foretelling.specs.Theorems.{AlarmStays, AtLast, LastMoment, IsNotForetold, InNone, Unwarned}
+use Rattle.foretelling.specs.Foretelling.{Lasts, Alarm, Foretells}
+use Rattle.foretelling.specs.Theorems.{AlarmStays, AtLast, LastMoment, NotForetold, InNone, Unwarned}
 use Rattle.foretelling.proofs.Lasting.{lasts_fewer, lasts_earlier, lasts_none, settles}
 
 pub alarm_stays : AlarmStays
@@ -27,7 +27,7 @@ last_moment p n = (at_last, foretells)
     foretells : AtLast p n → Foretells p n
     foretells at es s r fine fault strikes = record { early = es; late = []; whole = refl; alarm = at es s r fine fault strikes }
 
-pub not_foretold : IsNotForetold
+pub not_foretold : NotForetold
 not_foretold p n m told =
     let k = m.misses in
     (last_moment p n).0 told m.es k.s k.runs.run k.runs.fine m.fault k.strikes m.fs k.t k.runs.run_2 k.runs.fine_2 (sym k.runs.same)

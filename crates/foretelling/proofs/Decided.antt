@@ -1,6 +1,6 @@
 -- Each fault is foretold, or two runs show that one is not: decided by a search of pairs of states. Assumes nothing.
-use Rattle.std.proofs.Common.{◌≡◌, ℕ, ◌≤◌, Bool, true, false, ◌||◌, ◌⊎◌, List, [], ◌∷◌, length, sym, refl, ap, ◌∙◌, subst, inl, inr, arith}
-use mathlib.Core.Bool.{Bool-discrete, false≢true}
+use Rattle.std.proofs.Common.{◌≡◌, ℕ, true, false, ◌⊎◌, List, [], ◌∷◌, length, sym, refl, ap, ◌∙◌, subst, inl, inr, arith}
+use mathlib.Core.Bool.{Bool-discrete}
 use native.Mathlib.Decide.{ℕ_discrete, map_dec}
 use Rattle.graph.specs.Member.{Among, here}
 use Rattle.graph.specs.Product.{lefts, rights}
@@ -10,7 +10,7 @@ use Rattle.graph.proofs.Product.{product_finite, product_among}
 use Rattle.graph.proofs.Reach.{walk?, AtLeast, at_least?}
 use Rattle.graph.proofs.Walk.{count-labels, stays_inside}
 use Rattle.plant.specs.declared.parts.Arrow.{Arrow}
-use Rattle.plant.specs.Plant.{Plant, Run, stands, goes, seen, faulty}
+use Rattle.plant.specs.Plant.{Plant, Run, faulty}
 use Rattle.plant.specs.Twin.{Goes, GoesFine, Twin}
 use Rattle.plant.proofs.States.{goes_finite, fine_finite, reached, ends_reached}
 use Rattle.plant.proofs.Traces.{run_trace, trace_run, count_all}

@@ -1,6 +1,5 @@
 -- A fault that can happen in a state is an arrow from it. Assumes nothing.
-use Rattle.std.proofs.Common.{◌≡◌, ℕ, Bool, true, false, ◌||◌, List, [], ◌∷◌, length, refl, ap, ◌∙◌, subst, arith}
-use mathlib.Core.Bool.{or-false}
+use Rattle.std.proofs.Common.{◌≡◌, ℕ, Bool, true, false, ◌||◌, List, [], ◌∷◌, length, refl, arith}
 use Rattle.graph.specs.Member.{Among}
 use Rattle.plant.specs.declared.parts.Arrow.{Arrow}
 use Rattle.plant.specs.Plant.{Plant, Run, stands, goes, faulty}

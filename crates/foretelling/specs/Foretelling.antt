@@ -10,7 +10,7 @@ pub record Strikes (p : Plant) (s : ℕ) (fault : List ℕ) : Type 0 where
   pub bad : faulty p fault ≡ true
 
 -- events without a fault that can follow in state t
-pub record Goes_on (p : Plant) (t : ℕ) (later : List ℕ) : Type 0 where
+pub record GoesOn (p : Plant) (t : ℕ) (later : List ℕ) : Type 0 where
   pub end : ℕ
   pub run : Run p t later end
   pub fine : faulty p later ≡ false
@@ -18,7 +18,7 @@ pub record Goes_on (p : Plant) (t : ℕ) (later : List ℕ) : Type 0 where
 -- n events without a fault can follow
 pub record Lasts (p : Plant) (n t : ℕ) : Type 0 where
   pub later : List ℕ
-  pub on : Goes_on p t later
+  pub on : GoesOn p t later
   pub many : length later ≡ n
 
 -- an alarm at signs: no run without a fault that shows them goes on by n events without a fault
@@ -51,7 +51,7 @@ pub record Misses (p : Plant) (es fault fs later : List ℕ) : Type 0 where
   pub t : ℕ
   pub runs : Alike p es fs s t
   pub strikes : Strikes p s fault
-  pub goes_on : Goes_on p t later
+  pub goes_on : GoesOn p t later
 
 -- such runs, the other one going on by n events
 pub record Missed (p : Plant) (n : ℕ) : Type 0 where

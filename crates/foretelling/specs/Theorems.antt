@@ -21,8 +21,8 @@ abbrev pub ForetoldOrMissed : Type 0
 ForetoldOrMissed = (p : Plant) (n : ℕ) → Foretells p n ⊎ Missed p n
 
 -- never both
-abbrev pub IsNotForetold : Type 0
-IsNotForetold = (p : Plant) (n : ℕ) → Missed p n → Foretells p n → ⊥
+abbrev pub NotForetold : Type 0
+NotForetold = (p : Plant) (n : ℕ) → Missed p n → Foretells p n → ⊥
 
 -- in no events only a plant foretells in which no fault can happen
 abbrev pub InNone : Type 0

@@ -1,5 +1,5 @@
 -- Three worked plants. Statements: they assume nothing.
-use Rattle.std.specs.Prelude.{ℕ, Bool, true, false, List, [], ◌∷◌}
+use Rattle.std.specs.Prelude.{Bool, true, false, [], ◌∷◌}
 use Rattle.plant.specs.Plant.{Plant}
 use Rattle.plant.specs.Numbers.{arrows_in}
 use Rattle.plant.specs.Worked.{untold}

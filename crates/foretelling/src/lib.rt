@@ -2,7 +2,7 @@
 // Each theorem is the promise of a function that does nothing: without its proof the crate is not proved.
 #![tactic(auto)]
 
-ghost use Rattle.foretelling.specs.Theorems.{AlarmStays, ForetoldOrMissed, InNone, LastMoment, IsNotForetold, Settles, Unwarned};
+ghost use Rattle.foretelling.specs.Theorems.{AlarmStays, ForetoldOrMissed, InNone, LastMoment, NotForetold, Settles, Unwarned};
 ghost use Rattle.foretelling.specs.Worked.{WorkedForetelling};
 
 // An alarm stays, whatever is shown then.
@@ -22,7 +22,7 @@ pub fn foretold_or_missed()
 
 // Never both.
 pub fn not_foretold()
-    ensures { IsNotForetold }
+    ensures { NotForetold }
 {}
 
 // In no events only a plant foretells in which no fault can happen.

@@ -1,10 +1,9 @@
-use Rattle.std.proofs.Common.{◌≡◌, ℕ, Bool, true, false, List, [], ◌∷◌, length, refl, true≢false, arith}
+use Rattle.std.proofs.Common.{◌≡◌, ℕ, true, false, List, [], ◌∷◌, length, refl, true≢false, arith}
 use mathlib.Core.Bool.{false≢true}
 use Rattle.graph.specs.Member.{here, there}
-use Rattle.plant.specs.Plant.{Run, stands, goes, seen, faulty}
+use Rattle.plant.specs.Plant.{stands, goes, seen, faulty}
 use Rattle.plant.specs.Numbers.{arrows_in, plant_in}
-use Rattle.foretelling.specs.Foretelling.{Foretells}
-use Rattle.foretelling.specs.Worked.{loop, WorkedForetelling}
+use Rattle.foretelling.specs.Worked.{loop}
 use Rattle.foretelling.proofs.worked_foretelling.Goals as goal
 
 -- where each event is a fault, one event is not without
