@@ -13,7 +13,7 @@ import re
 import sys
 
 NAME = r"[\w'?]+(?:-[\w'?]+)+"
-TOKEN = re.compile(r"(?<![\w'?-])" + NAME + r"(?![\w'?-])")
+TOKEN = re.compile(r"(?<![\w'?-])[\w'?]+(?:-[\w'?]+)*(?![\w'?-])")
 HEAD = re.compile(r"^(\s*)((?:(?:abbrev|unfoldable|pub|record|data|mutual)\s+)*)(" + NAME + r")((?:\s+(?:\([^)]*\)|\{[^}]*\}))*)\s*:\s*(\S*)")
 HEADS = re.compile(r"^(\s*)((?:(?:abbrev|unfoldable|pub)\s+)*)([\w'?-]+(?:\s+[\w'?-]+)*)\s*:\s")
 PLAIN = re.compile(r"^(\s*)(?:(?:abbrev|unfoldable)\s+(?:pub\s+)?)([\w'?]+)\s*:\s")
@@ -61,8 +61,8 @@ def definitions(paths):
     return found, words
 
 
-# a variant of an enum has the name that this one would get
-OWN = {"Not-foretold": "IsNotForetold"}
+# named after its function
+OWN = {"Not-foretold": "NotForetold"}
 
 
 def spelled(name, lemma, words):
