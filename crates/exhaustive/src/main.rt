@@ -25,6 +25,7 @@ use refusals::{compare_follow, compare_judge, follow_refusal, judge_refusal};
 use rooms::first_part;
 use runs::Runs;
 use std::alloc::Global;
+use std::process::ExitCode;
 use verdicts::compare_verdict;
 use words::compare_words;
 
@@ -121,10 +122,12 @@ fn run(rt: &HostRuntime) -> Result<(), Failure> {
     compare_plants(rt, room.as_mut_slice())
 }
 
-fn main(rt: HostRuntime) -> Result<(), Failure> {
-    let compared = run(&rt);
-    if let Err(failure) = compared {
-        failure.print(&rt)?;
+fn main(rt: HostRuntime) -> ExitCode {
+    match run(&rt) {
+        Ok(()) => ExitCode::SUCCESS,
+        Err(failure) => {
+            let _ = failure.print(&rt);
+            ExitCode::FAILURE
+        }
     }
-    compared
 }
