@@ -1,13 +1,12 @@
 -- One sort and faults altogether. Assumes nothing.
-use Rattle.std.proofs.Common.{◌≡◌, ℕ, zero, suc, ◌+◌, ◌*◌, ◌%◌, ◌<◌, ◌≤◌, Bool, true, false, cond, ◌||◌, eqb, ltb, ◌⊎◌, List, [], ◌∷◌, ◌++◌, length, get_or, sym, refl, ap, ◌∙◌, inl, inr, ⊎_elim, arith}
+use Rattle.std.proofs.Common.{◌≡◌, ℕ, zero, suc, ◌+◌, ◌*◌, ◌%◌, ◌<◌, ◌≤◌, Bool, true, false, cond, ◌||◌, eqb, ◌⊎◌, List, [], ◌∷◌, ◌++◌, length, get_or, sym, refl, ◌∙◌, inl, inr, ⊎_elim, arith}
 use Rattle.std.proofs.lemmas.List.{get_or_past}
-use Rattle.std.proofs.lemmas.Bool.{cases_Bool, cases_eq, cases_lt, eq-eqb, eqb-true, false≢true, le-ltb, lt-ltb, ltb-false, ltb-true, ne_eqb, or_cases, or_left, or_parts, or_right}
-use Rattle.graph.specs.Member.{Among, here, there}
+use Rattle.std.proofs.lemmas.Bool.{cases_eq, cases_lt, eq-eqb, eqb-true, false≢true, lt-ltb, ltb-false, ltb-true, ne_eqb, or_cases, or_left, or_parts, or_right}
+use Rattle.graph.specs.Member.{Among, there}
 use Rattle.graph.proofs.Member.{among_cases, among_eq, none_among}
 use Rattle.plant.specs.declared.parts.Arrow.{Arrow}
 use Rattle.plant.specs.Plant.{Plant, Run, stands, goes, seen, faulty, May, ComesOutIn}
 use Rattle.plant.specs.Numbers.{arrows_in}
-use Rattle.sorts.specs.declared.kinds.Faults.{Faults}
 use Rattle.sorts.specs.declared.kinds.Faults.TheVariants.{Sort, Any}
 use Rattle.sorts.specs.Sorts.{is_fault, occurs, plant_of, sort_of}
 use Rattle.sorts.specs.Theorems.{Alone, Greatest, OnlySort, arrows_of, with_arrows}

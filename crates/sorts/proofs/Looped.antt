@@ -1,11 +1,11 @@
 -- Two faults of two sorts that look alike. Assumes nothing.
-use Rattle.std.proofs.Common.{◌≡◌, ℕ, Bool, true, false, ◌&&◌, eqb, [], ◌∷◌, refl, arith}
+use Rattle.std.proofs.Common.{◌≡◌, ℕ, Bool, true, false, ◌&&◌, eqb, [], refl, arith}
 use Rattle.graph.specs.Member.{here, there}
-use Rattle.plant.specs.Plant.{Run, stands, goes, seen, faulty}
+use Rattle.plant.specs.Plant.{stands, goes, seen, faulty}
 use Rattle.plant.specs.Numbers.{arrows_in}
 use Rattle.plant.proofs.States.{below}
 use Rattle.plant.proofs.Table.{all_of, implies, fits, lefts_fit, rights_fit, boths_fit, low_rank, ends_below, checks, table_out}
-use Rattle.sorts.specs.declared.kinds.Faults.TheVariants.{Sort, Any}
+use Rattle.sorts.specs.declared.kinds.Faults.TheVariants.{Any}
 use Rattle.sorts.specs.Sorts.{plant_of}
 use Rattle.sorts.specs.Theorems.{ConverseFails, two_loops, two_sorts}
 

@@ -1,11 +1,11 @@
 -- Marked events place by place, and the plant that they make. Assumes nothing.
-use Rattle.std.proofs.Common.{◌≡◌, ℕ, zero, suc, ◌+◌, ◌*◌, ◌/◌, ◌%◌, ◌<◌, ◌≤◌, min, Bool, true, false, cond, ◌||◌, eqb, ◌⊎◌, List, [], ◌∷◌, ◌++◌, length, get_or, take, set, sym, refl, ap, ◌∙◌, ⊎_elim, arith}
+use Rattle.std.proofs.Common.{◌≡◌, ℕ, zero, suc, ◌+◌, ◌*◌, ◌%◌, ◌<◌, ◌≤◌, min, Bool, true, false, cond, eqb, List, [], ◌∷◌, ◌++◌, length, get_or, take, set, sym, refl, ap, ◌∙◌, ⊎_elim, arith}
 use Rattle.std.proofs.lemmas.List.{get_or_past, take_all, take_more, take_more_set}
 use Rattle.std.proofs.lemmas.Bool.{cases_lt}
 use Rattle.sets.specs.Sets.{bit}
 use Rattle.plant.specs.Numbers.{arrows_in, plant_in}
 use Rattle.sorts.specs.declared.kinds.Faults.{Faults}
-use Rattle.sorts.specs.Sorts.{is_fault, marked_by, plant_of, sort_of}
+use Rattle.sorts.specs.Sorts.{is_fault, marked_by, plant_of}
 
 module _ (f : Faults) where
   pub length_marked : (es : List ℕ) → length (marked_by f es) ≡ length es

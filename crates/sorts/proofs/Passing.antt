@@ -1,5 +1,5 @@
 -- What is known where no rule turns a sort away. Assumes nothing.
-use Rattle.std.proofs.Common.{◌≡◌, ℕ, ◌≤◌, Bool, false, ◌&&◌, leb, List, length, take, Some, None, Option, sym, refl, ap, ◌∙◌, arith}
+use Rattle.std.proofs.Common.{◌≡◌, ℕ, false, ◌&&◌, leb, List, length, take, None, Option, sym, refl, ap, ◌∙◌, arith}
 use Rattle.std.proofs.lemmas.Bool.{and_parts, leb-true, ne_eqb}
 use Rattle.plant.specs.declared.parts.Refusal.{Refusal}
 use Rattle.plant.specs.Numbers.{plant_in}
@@ -15,7 +15,7 @@ use Rattle.sorts.specs.declared.held.Marked.{Marked}
 use Rattle.sorts.specs.declared.kinds.Faults.{Faults}
 use Rattle.sorts.specs.declared.kinds.Faults.TheVariants.{Sort, Any}
 use Rattle.sorts.specs.Held.{Held, numbers_in}
-use Rattle.sorts.specs.Refusals.{asked_refusal, marks_refusal, memory_too, plant_refusal, room_too, sorts_refusal}
+use Rattle.sorts.specs.Refusals.{asked_refusal, marks_refusal, memory_too, room_too, sorts_refusal}
 use Rattle.sorts.specs.Sorts.{is_fault, marked_by, plant_of}
 use Rattle.sorts.proofs.Cutting.{cut_refusal, cut_whole}
 use Rattle.sorts.proofs.Numbering.{plant_same}

@@ -1,11 +1,8 @@
 -- The plant's own rules over marked events. Assumes nothing.
-use Rattle.std.proofs.Common.{◌≡◌, ℕ, suc, ◌+◌, ◌-◌, ◌*◌, ◌/◌, ◌%◌, ◌<◌, ◌≤◌, Bool, true, false, cond, eqb, ltb, List, [], ◌∷◌, length, get_or, Some, None, Option, sym, refl, ap, ◌∙◌, arith}
-use Rattle.std.specs.Option.{option_map}
+use Rattle.std.proofs.Common.{◌≡◌, ℕ, suc, ◌+◌, ◌*◌, ◌%◌, ◌≤◌, Bool, true, false, cond, ltb, List, [], ◌∷◌, length, Some, Option, sym, refl, ap, ◌∙◌, arith}
 use Rattle.std.proofs.lemmas.Bool.{lt-ltb}
 use Rattle.sets.specs.Sets.{bit}
-use Rattle.plant.specs.declared.parts.Refusal.{Refusal}
-use Rattle.plant.specs.declared.parts.Refusal.TheVariants.{Events}
-use Rattle.plant.specs.Refusals.{arrows_refusal, events_refusal, first_over, or_else, refusal, states_refusal}
+use Rattle.plant.specs.Refusals.{arrows_refusal, events_refusal, first_over, refusal}
 use Rattle.sorts.specs.declared.kinds.Faults.{Faults}
 use Rattle.sorts.specs.Sorts.{is_fault, marked_by, sort_of}
 use Rattle.sorts.specs.Theorems.{RulesSame}

@@ -11,6 +11,6 @@ pub returns-in-Any : goal.returns-in-Any
 unfolding asked_refusal
 returns-in-Any c = rw c.in-Any.is
 
-pub returns-else-sort-gt-MOST-SORTS : goal.returns-else-sort-gt-MOST-SORTS
+pub returns-else-sort-gt-MOST_SORTS : goal.returns-else-sort-gt-MOST_SORTS
 unfolding asked_refusal
-returns-else-sort-gt-MOST-SORTS c = rw c.in-Sort.is (grind (arith, nat_tests))
+returns-else-sort-gt-MOST_SORTS c = rw c.in-Sort.is (grind (arith, nat_tests))

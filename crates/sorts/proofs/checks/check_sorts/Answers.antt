@@ -8,4 +8,4 @@ returns-in-Some c = rw (sym c.in-Some.ensures)
 
 pub returns-in-None : goal.returns-in-None
 unfolding marks_refusal
-returns-in-None c = rw (sym c.in-None.ensures) c.check-asked.ensures
+returns-in-None c = rw (sym c.in-None.ensures) c.check_asked.ensures

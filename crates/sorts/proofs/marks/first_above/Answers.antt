@@ -1,4 +1,4 @@
-use Rattle.std.proofs.Common.{◌≡◌, ◌%◌, ◌<◌, ◌≤◌, [], ◌∷◌, get_or, sym, refl, ◌∙◌}
+use Rattle.std.proofs.Common.{◌%◌, [], ◌∷◌, sym, refl, ◌∙◌}
 use Rattle.std.proofs.lemmas.Bool.{ltb-false, ltb-true, not-false, not-true}
 use Rattle.plant.proofs.Limits.{over_here, over_later, over_nowhere}
 use Rattle.sorts.proofs.marks.first_above.Goals as goal

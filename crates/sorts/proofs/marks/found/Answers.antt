@@ -1,4 +1,4 @@
-use Rattle.std.proofs.Common.{◌≡◌, sym, ◌∙◌, arith}
+use Rattle.std.proofs.Common.{sym, ◌∙◌, arith}
 use Rattle.sorts.proofs.Looking.{occurs_here, occurs_later, occurs_nowhere}
 use Rattle.sorts.proofs.marks.found.Goals as goal
 

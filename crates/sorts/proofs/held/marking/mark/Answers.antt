@@ -1,4 +1,4 @@
-use Rattle.std.proofs.Common.{◌≡◌, ◌<◌, length, sym, ◌∙◌, arith}
+use Rattle.std.proofs.Common.{◌≡◌, ◌<◌, length, ◌∙◌, arith}
 use Rattle.std.proofs.lemmas.List.{length-set}
 use Rattle.sorts.proofs.Numbering.{marked_all, marked_more}
 use Rattle.sorts.proofs.held.marking.mark.Goals as goal
@@ -8,8 +8,8 @@ loop-i-preserved c =
     let i = c.loop-i.i in
     let here : i < length c.args.events.now = omega arith in
     let room : i < length c.loop-i.numbers = omega (arith, c.loop-i.invariant.0) in (
-      length-set c.loop-i.numbers i c.number-at.result ∙ c.loop-i.invariant.0,
-      marked_more c.args.faults c.args.events.now c.loop-i.numbers i c.number-at.result here room c.loop-i.invariant.1 c.number-at.ensures,
+      length-set c.loop-i.numbers i c.number_at.result ∙ c.loop-i.invariant.0,
+      marked_more c.args.faults c.args.events.now c.loop-i.numbers i c.number_at.result here room c.loop-i.invariant.1 c.number_at.ensures,
     )
 
 pub returns : goal.returns
