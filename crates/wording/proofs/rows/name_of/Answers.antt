@@ -6,4 +6,4 @@ pub returns-then-event-names : goal.returns-then-event-names
 returns-then-event-names c = no_name c.args.names.now c.args.event (omega arith)
 
 pub returns : goal.returns
-returns c = c.as-str.ensures.value ∙ name_at c.args.names.now c.args.event _ (omega arith) c.index-names-event.is
+returns c = c.as_str.ensures.value ∙ name_at c.args.names.now c.args.event _ (omega arith) c.index-names-event.is

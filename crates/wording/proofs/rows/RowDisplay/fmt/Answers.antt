@@ -13,7 +13,7 @@ loop-i-preserved g c =
     let ws = map string_bytes c.args.self.now.names.now in
     let es = c.args.self.now.events.now in
     let p = c.loop-i.invariant plain in
-    let q = c.in-ok-write.ensures.shows p.plain refl in
-    let w = c.name-of-name.result.now in
-    has_written_of_eq g.W.Write.write_str_gives _ _ _ _ (spelled_back ws es c.loop-i.i w (omega arith) (omega arith) c.name-of-name.ensures)
+    let q = c.in_ok-write.ensures.writes p.plain refl in
+    let w = c.name_of-name.result.now in
+    has_written_of_eq g.W.Write.write_str_gives _ _ _ _ (spelled_back ws es c.loop-i.i w (omega arith) (omega arith) c.name_of-name.ensures)
     (has_written_append g.W.Write.write_str_gives _ (spelled ws (drop c.loop-i.i es)) _ (codes " " ++ w) _ p q)
