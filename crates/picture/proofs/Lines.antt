@@ -1,10 +1,10 @@
 -- One edge more. Assumes nothing.
-use Rattle.std.proofs.Common.{◌≡◌, ℕ, ◌+◌, ◌<◌, ◌≤◌, Bool, eqb, ltb, List, [], ◌∷◌, ◌++◌, map, length, get_or, take, drop, codes, decimal, sym, refl, ap, ◌∙◌, arith}
+use Rattle.std.proofs.Common.{◌≡◌, ℕ, ◌+◌, ◌<◌, ◌≤◌, eqb, List, [], ◌∷◌, ◌++◌, map, length, get_or, take, drop, codes, decimal, sym, refl, ap, ◌∙◌, arith}
 use Rattle.std.specs.List.{flat_map}
 use Rattle.std.proofs.lemmas.List.{length-map, get_or-map, get_or_past, at_drop_more, take_more, take_all}
 use Rattle.drawing.specs.declared.shape.Event.{Event}
 use Rattle.drawing.specs.Drawn.{Kind, kind}
-use Rattle.drawing.specs.Fine.{or_zero}
+use Rattle.drawing.specs.Fine.{sign_of}
 use Rattle.picture.specs.declared.edges.Edge.{Edge}
 use Rattle.drawing.specs.declared.shape.Arrow.{Arrow}
 use Rattle.picture.specs.Pictures.{arrow_of, colour, edge_line, edge_text, label, no_kind, style}
@@ -28,11 +28,11 @@ module _ (ws : List (List ℕ)) (ks : List Kind) (es : List Edge) (i : ℕ) (d :
       codes "  " ++ (decimal (get_or es i d).arrow.«from» ++ (codes " -> " ++ (decimal (get_or es i d).arrow.to ++ (codes " [label=\"" ++ (label w s ++ (codes "\", style=" ++ (st ++ (codes ", color=\"" ++ (co ++ codes "\"];\n")))))))))
 
   pub edge_next :
-      (w : List ℕ) (ev : Event) (s f : ℕ) (st co : List ℕ) → i < length es → w ≡ get_or ws (get_or es i d).arrow.event [] → kind ev ≡ get_or ks (get_or es i d).arrow.event no_kind
-      → s ≡ or_zero ev.sign → f ≡ or_zero ev.sort → st ≡ style (eqb s 0) (ltb 0 f) → co ≡ colour (get_or es i d).tint
+      (w : List ℕ) (ev : Event) (s : ℕ) (st co : List ℕ) → i < length es → w ≡ get_or ws (get_or es i d).arrow.event [] → kind ev ≡ get_or ks (get_or es i d).arrow.event no_kind
+      → s ≡ sign_of ev.sign → st ≡ style (eqb s 0) ev.fault → co ≡ colour (get_or es i d).tint
       → flat_map (edge_line ws ks) (drop i es) ≡ pieces w s st co ++ flat_map (edge_line ws ks) (drop (i + 1) es)
-  edge_next w ev s f st co lt name event sign sort styled tinted =
-      edges_more w (kind ev) lt name event ∙ ap (λ b. b ++ flat_map (edge_line ws ks) (drop (i + 1) es)) (sym (λ j. pieces w (sign j) ((styled ∙ (λ t. style (eqb (sign t) 0) (ltb 0 (sort t)))) j) (tinted j)))
+  edge_next w ev s st co lt name event sign styled tinted =
+      edges_more w (kind ev) lt name event ∙ ap (λ b. b ++ flat_map (edge_line ws ks) (drop (i + 1) es)) (sym (λ j. pieces w (sign j) ((styled ∙ (λ t. style (eqb (sign t) 0) ev.fault)) j) (tinted j)))
 
 -- three parts, one behind the other
 pub whole : (none head edges tail o₁ o₂ o₃ : List ℕ) → none ≡ [] → o₁ ≡ none ++ head → o₂ ≡ o₁ ++ edges → o₃ ≡ o₂ ++ tail → o₃ ≡ (head ++ edges) ++ tail

@@ -1,5 +1,5 @@
 -- A plant as a text for Graphviz. These are definitions and assume nothing.
-use Rattle.std.specs.Prelude.{ℕ, Bool, true, false, cond, List, [], ◌++◌, None, codes, decimal, ◌==◌, nat_lt, slice_index_or}
+use Rattle.std.specs.Prelude.{ℕ, Bool, true, false, cond, List, [], ◌++◌, codes, decimal, ◌==◌, slice_index_or}
 use Rattle.std.specs.List.{flat_map}
 use Rattle.drawing.specs.Drawn.{Kind}
 use Rattle.drawing.specs.declared.shape.Arrow.{Arrow}
@@ -29,11 +29,11 @@ colour Second = codes "blue"
 colour Both = codes "red:blue"
 
 abbrev pub no_kind : Kind
-no_kind = record { sign = 0; sort = 0; price = None }
+no_kind = record { sign = 0; fault = false }
 
 abbrev pub edge_text : Edge → List ℕ → Kind → List ℕ
 edge_text e w k =
-    codes "  " ++ (decimal e.arrow.«from» ++ (codes " -> " ++ (decimal e.arrow.to ++ (codes " [label=\"" ++ (label w k.sign ++ (codes "\", style=" ++ (style (k.sign == 0) (nat_lt 0 k.sort) ++ (codes ", color=\"" ++ (colour e.tint ++ codes "\"];\n")))))))))
+    codes "  " ++ (decimal e.arrow.«from» ++ (codes " -> " ++ (decimal e.arrow.to ++ (codes " [label=\"" ++ (label w k.sign ++ (codes "\", style=" ++ (style (k.sign == 0) k.fault ++ (codes ", color=\"" ++ (colour e.tint ++ codes "\"];\n")))))))))
 
 abbrev pub edge_line : List (List ℕ) → List Kind → Edge → List ℕ
 edge_line ws ks e = edge_text e (slice_index_or ws e.arrow.event []) (slice_index_or ks e.arrow.event no_kind)

@@ -59,8 +59,7 @@ fn event_of(events: &[Event], event: usize) -> Event
     if event >= events.len() {
         return Event {
             sign: None,
-            sort: None,
-            price: None,
+            fault: false,
         };
     }
     events[event]
@@ -78,7 +77,7 @@ fn write_edges(out: &mut String, names: &[String], events: &[Event], edges: &[Ed
             name: name_of(names, edge.arrow.event),
             sign,
         };
-        let style = style_of(sign == 0, event.fault_sort() > 0);
+        let style = style_of(sign == 0, event.fault);
         let colour = colour_of(edge.tint);
         write!(
             out,
