@@ -1,11 +1,10 @@
 -- Nothing is turned away if and only if it fits. Assumes nothing.
-use Rattle.std.proofs.Common.{◌≡◌, ℕ, zero, suc, ◌+◌, ◌-◌, ◌/◌, ◌<◌, ◌≤◌, Bool, true, false, cond, eqb, List, length, Some, None, Ok, Option, sym, refl, ap, ◌∙◌, arith}
-use Rattle.std.specs.Option.{option_map}
+use Rattle.std.proofs.Common.{◌≡◌, ℕ, zero, suc, ◌+◌, ◌-◌, ◌/◌, ◌<◌, ◌≤◌, Bool, true, false, cond, eqb, List, length, Some, None, Ok, Option, refl, arith}
 use Rattle.std.proofs.lemmas.Bool.{eqb-true, eqb-false, eq-eqb, ne_eqb}
 use Rattle.plant.specs.declared.parts.Refusal.{Refusal}
 use Rattle.plant.specs.declared.parts.Refusal.TheVariants.{Labelling}
 use Rattle.plant.specs.Checked.{checked}
-use Rattle.plant.specs.Refusals.{or_else, refusal}
+use Rattle.plant.specs.Refusals.{refusal}
 use Rattle.plant.proofs.Valid.{or_else_none, mapped_none, passed, failed, refused_or_valid}
 use Rattle.labelling.specs.Refused.{fault_in, sound_after, sound_events, row_refusal, labelling_refusal, Fit, RefusedOrFit}
 

@@ -11,7 +11,6 @@ use Rattle.plant.specs.Validity.{Fits, Valid}
 use Rattle.plant.proofs.Judged.{not_both, walks_hide}
 use Rattle.plant.proofs.Valid.{refused_or_valid}
 use Rattle.twin.specs.Found.{KnotAt}
-use Rattle.views.specs.Views.{FinerView}
 use Rattle.views.proofs.Finer.{finer_out}
 use Rattle.labelling.specs.Labels.{Does, labelled}
 use Rattle.labelling.specs.Trials.{Written, Writing}

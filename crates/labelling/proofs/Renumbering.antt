@@ -1,7 +1,7 @@
 -- Every row is a renaming of one in normal form, which has as many signs. Assumes nothing.
-use Rattle.std.proofs.Common.{◌≡◌, ℕ, zero, suc, ◌+◌, ◌<◌, ◌≤◌, max, Bool, true, false, cond, ◌||◌, eqb, List, [], ◌∷◌, map, length, get_or, sym, refl, ap, ◌∙◌, subst, ⊎_elim, true≢false, arith}
-use Rattle.std.proofs.lemmas.Bool.{cases_eq, eqb-true, eqb-false, eq-eqb, ne_eqb, or_cases, or_parts, or_right}
-use Rattle.labelling.specs.Labels.{named, different, signs}
+use Rattle.std.proofs.Common.{◌≡◌, ℕ, zero, suc, ◌≤◌, max, Bool, true, false, cond, ◌||◌, eqb, List, [], ◌∷◌, length, get_or, sym, refl, ap, ◌∙◌, ⊎_elim, true≢false, arith}
+use Rattle.std.proofs.lemmas.Bool.{cases_eq, eqb-true, eq-eqb, or_cases, or_parts, or_right}
+use Rattle.labelling.specs.Labels.{named, different}
 use Rattle.labelling.specs.Trials.{Grown, top, SameSigns}
 
 -- the place of a number, counted from the end and from 1; 0 if it is not there

@@ -1,13 +1,13 @@
-use Rattle.std.proofs.Common.{ℕ, ◌<◌, ◌≤◌, sym, refl, subst, arith}
+use Rattle.std.proofs.Common.{ℕ, ◌<◌, ◌≤◌, refl, subst, arith}
 use Rattle.plant.specs.Numbers.{plant_in}
 use Rattle.labelling.specs.Refused.{fault_in}
 use Rattle.labelling.specs.Trials.{events_of, plant_of}
 use Rattle.labelling.proofs.Trying.{few_signs, choice_more, improved_by_none, improving_more, improving_all}
 use Rattle.labelling.proofs.trials.Trials.+explore.Goals as goal
 
-pub returns-then-not-has-fewer : goal.returns-then-not-has-fewer
-returns-then-not-has-fewer t c =
-    improved_by_none (plant_of c.args.self) (events_of c.args.self) c.args.event c.args.row c.args.best c.requires.sound c.if-not-has-fewer.ensures
+pub returns-then-not-has_fewer : goal.returns-then-not-has_fewer
+returns-then-not-has_fewer t c =
+    improved_by_none (plant_of c.args.self) (events_of c.args.self) c.args.event c.args.row c.args.best c.requires.sound c.if-not-has_fewer.ensures
 
 pub choices-label-end-requires : goal.choices-label-end-requires
 choices-label-end-requires t c = record {
