@@ -1,5 +1,5 @@
 -- All sets are met by their numbers, and a cheapest of these is a cheapest of all. Assumes nothing.
-use Rattle.std.proofs.Common.{◌≡◌, ℕ, zero, suc, ◌+◌, ◌*◌, ◌/◌, ◌%◌, ◌^◌, ◌<◌, ◌≤◌, min, Bool, true, false, cond, ◌&&◌, ◌||◌, eqb, List, [], ◌∷◌, length, get_or, replicate, sym, refl, ap, ◌∙◌, subst, inl, inr, ⊎_elim, true≢false, pow-suc, arith}
+use Rattle.std.proofs.Common.{◌≡◌, ℕ, zero, suc, ◌+◌, ◌*◌, ◌/◌, ◌%◌, ◌^◌, ◌<◌, ◌≤◌, Bool, true, false, ◌&&◌, eqb, List, [], ◌∷◌, length, get_or, replicate, sym, refl, ap, ◌∙◌, subst, inl, inr, ⊎_elim, true≢false, pow-suc, arith}
 use lib.Bits.{bit_and, and_step}
 use Rattle.std.specs.List.{AllByRecursion}
 use Rattle.std.proofs.lemmas.Bool.{cases_lt, or_cases, or_left, or_right, and_parts, and_from, eqb-true, eq-eqb, ne_eqb}
@@ -13,7 +13,7 @@ use Rattle.sensors.specs.declared.selection.Known.{Known}
 use Rattle.sensors.specs.Candidates.{Fit, chosen, cost}
 use Rattle.sensors.specs.Choice.{CheapestSet, NoSet}
 use Rattle.sensors.specs.Walls.{Covered, Noted}
-use Rattle.sensors.specs.Sets.{digits, chosen_by, cost_by, Does, Never, Sound, NoLess, Failing, Better, BestOf}
+use Rattle.sensors.specs.Sets.{digits, chosen_by, cost_by, Never, Sound, NoLess, Failing, Better, BestOf}
 use Rattle.sensors.proofs.Deciding.{sign_small}
 
 -- the number of a set, of so many digits

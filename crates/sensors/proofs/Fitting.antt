@@ -1,11 +1,10 @@
 -- Nothing is turned away if and only if it fits. Assumes nothing.
-use Rattle.std.proofs.Common.{◌≡◌, ℕ, zero, suc, ◌+◌, ◌*◌, ◌/◌, ◌<◌, ◌≤◌, Bool, true, false, cond, not, ◌||◌, eqb, ltb, leb, List, [], ◌∷◌, length, get_or, take, Some, None, Ok, Option, sym, refl, ap, ◌∙◌, arith}
-use Rattle.std.specs.Option.{option_map}
+use Rattle.std.proofs.Common.{◌≡◌, ℕ, zero, suc, ◌+◌, ◌*◌, ◌/◌, ◌<◌, ◌≤◌, Bool, false, cond, not, eqb, ltb, leb, List, length, get_or, take, Some, None, Ok, Option, refl, arith}
 use Rattle.std.proofs.lemmas.Bool.{ltb-false, le-ltb, leb-false, lt-leb, eqb-true, eq-eqb, or_parts, or_from, not-false, not_from_true}
 use Rattle.plant.specs.declared.parts.Refusal.{Refusal}
 use Rattle.plant.specs.declared.parts.Refusal.TheVariants.{Candidates}
 use Rattle.plant.specs.Checked.{checked}
-use Rattle.plant.specs.Refusals.{or_else, refusal}
+use Rattle.plant.specs.Refusals.{refusal}
 use Rattle.plant.proofs.Valid.{or_else_none, mapped_none, passed, failed, refused_or_valid}
 use Rattle.sensors.specs.Candidates.{named, unfit, first_where, candidates_refusal, choice_refusal, Fit, RefusedOrFit}
 

@@ -1,7 +1,7 @@
 -- Signs of their own for the chosen candidates. Assumes nothing.
-use Rattle.std.proofs.Common.{◌≡◌, ℕ, zero, suc, ◌+◌, ◌*◌, ◌/◌, ◌<◌, ◌≤◌, Bool, true, false, cond, ◌&&◌, ◌||◌, eqb, ◌≢◌, ◌⊎◌, List, [], ◌∷◌, map, length, get_or, take, set, sym, refl, ap, ◌∙◌, subst, inl, inr, ⊎_elim, true≢false, add-one, arith, length-set}
+use Rattle.std.proofs.Common.{◌≡◌, ℕ, zero, suc, ◌+◌, ◌*◌, ◌<◌, ◌≤◌, Bool, true, false, ◌&&◌, ◌||◌, eqb, ◌≢◌, List, [], ◌∷◌, map, length, get_or, take, set, sym, refl, ap, ◌∙◌, subst, ⊎_elim, true≢false, add-one, arith, length-set}
 use Rattle.graph.specs.Member.{Among, here, there}
-use Rattle.graph.proofs.Member.{Distinct, none, more, distinct_length, among_cases, among_eq, among_map, none_among, length-map}
+use Rattle.graph.proofs.Member.{Distinct, none, more, distinct_length, among_cases, among_map, none_among, length-map}
 use Rattle.plant.proofs.States.{below, length-below, among_below}
 use Rattle.std.proofs.lemmas.List.{get_or-set_same, get_or-set_other, get_or_past, take_all}
 use Rattle.std.proofs.lemmas.Bool.{eqb-true, eqb-false, or_parts, or_cases, cases_lt, ne_eqb}

@@ -1,5 +1,5 @@
 -- Sets of candidates as numbers, and the cheapest so far. These are definitions and assume nothing.
-use Rattle.std.specs.Prelude.{◌≡◌, ℕ, zero, suc, ◌/◌, ◌%◌, ◌^◌, ◌<◌, ◌≤◌, Bool, List, [], ◌∷◌, length, slice_index}
+use Rattle.std.specs.Prelude.{◌≡◌, ℕ, zero, suc, ◌/◌, ◌%◌, ◌<◌, ◌≤◌, Bool, List, [], ◌∷◌, slice_index}
 use Rattle.plant.specs.Numbers.{plant_in}
 use Rattle.plant.specs.Plant.{Plant, ComesOut}
 use Rattle.views.specs.Shown.{Shown}

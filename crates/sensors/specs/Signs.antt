@@ -1,5 +1,5 @@
 -- Signs in the numbers of events, two for each. These are definitions and assume nothing.
-use Rattle.std.specs.Prelude.{◌≡◌, ℕ, ◌+◌, ◌*◌, ◌/◌, ◌<◌, ◌≤◌, Bool, true, false, List, length, set, ◌≢◌, slice_index, slice_set}
+use Rattle.std.specs.Prelude.{◌≡◌, ℕ, ◌+◌, ◌*◌, ◌/◌, ◌<◌, ◌≤◌, Bool, true, false, List, length, ◌≢◌, slice_index, slice_set}
 
 -- some event shows the sign
 abbrev pub InUse : (events : List ℕ) (sign : ℕ) → Type 0

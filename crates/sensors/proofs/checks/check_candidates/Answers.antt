@@ -3,9 +3,9 @@ use Rattle.std.proofs.lemmas.Bool.Decides.{nat_tests}
 use Rattle.sensors.specs.Candidates.{candidates_refusal}
 use Rattle.sensors.proofs.checks.check_candidates.Goals as goal
 
-pub returns-then-candidates-gt-MOST-CANDIDATES : goal.returns-then-candidates-gt-MOST-CANDIDATES
+pub returns-then-candidates-gt-MOST_CANDIDATES : goal.returns-then-candidates-gt-MOST_CANDIDATES
 unfolding candidates_refusal
-returns-then-candidates-gt-MOST-CANDIDATES c = grind (arith, nat_tests)
+returns-then-candidates-gt-MOST_CANDIDATES c = grind (arith, nat_tests)
 
 pub returns-then-prices-candidates : goal.returns-then-prices-candidates
 unfolding candidates_refusal

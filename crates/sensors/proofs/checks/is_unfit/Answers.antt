@@ -11,9 +11,9 @@ pub returns-then-events-event-ne0 : goal.returns-then-events-event-ne0
 unfolding unfit
 returns-then-events-event-ne0 c = grind (arith, nat_tests)
 
-pub returns-then-is-named : goal.returns-then-is-named
+pub returns-then-is_named : goal.returns-then-is_named
 unfolding unfit
-returns-then-is-named c = grind (arith, nat_tests)
+returns-then-is_named c = grind (arith, nat_tests)
 
 pub returns : goal.returns
 unfolding unfit
