@@ -1,13 +1,13 @@
 -- What the entry's parts say, put together. Assumes nothing.
-use Rattle.std.proofs.Common.{◌≡◌, ℕ, min, List, length, None, sym, refl, ap, ◌∙◌, subst}
+use Rattle.std.proofs.Common.{◌≡◌, ℕ, min, List, None, ◌∙◌, subst}
 use Rattle.plant.specs.declared.lent.Plant.{Plant as Lent}
 use Rattle.plant.specs.Model.{model}
-use Rattle.plant.specs.Numbers.{arrows_in, plant_in}
+use Rattle.plant.specs.Numbers.{plant_in}
 use Rattle.plant.specs.Plant.{Plant}
 use Rattle.plant.specs.Refusals.{refusal}
 use Rattle.plant.proofs.Readings.{valid}
 use Rattle.plant.proofs.Valid.{refused_or_valid}
-use Rattle.foretelling.specs.Calm.{harmless, calm, numbers}
+use Rattle.foretelling.specs.Calm.{harmless, numbers}
 use Rattle.foretelling.specs.Foretelling.{Foretells}
 use Rattle.foretelling.specs.Theorems.{AtLast}
 use Rattle.foretelling.proofs.Alarms.{last_moment, least_alarm}

@@ -1,5 +1,5 @@
 -- The numbers of the arrows that are no faults, an arrow at a time. Assumes nothing.
-use Rattle.std.proofs.Common.{◌≡◌, ℕ, ◌+◌, ◌*◌, ◌<◌, ◌≤◌, Bool, true, false, not, List, [], ◌∷◌, ◌++◌, length, get_or, take, set, sym, refl, ap, ◌∙◌, subst, append_assoc, arith, length-set}
+use Rattle.std.proofs.Common.{◌≡◌, ℕ, ◌+◌, ◌<◌, ◌≤◌, Bool, true, false, not, List, [], ◌∷◌, ◌++◌, length, get_or, take, set, sym, refl, ap, ◌∙◌, append_assoc, arith, length-set}
 use Rattle.std.proofs.lemmas.List.{get_or-map, take_all, take_more, take_more_set}
 use Rattle.plant.specs.declared.lent.Plant.{Plant as Lent}
 use Rattle.plant.specs.declared.parts.Arrow.{Arrow}

@@ -10,11 +10,11 @@ loop-step-init c = leave_none c.args.plant c.args.room.now
 pub put-requires : goal.put-requires
 put-requires c = omega (arith, c.in-Some.ensures.there, few_steps c.args.plant)
 
-pub overflow-add-len : goal.overflow-add-len
-overflow-add-len c = omega (arith, c.in-Some.ensures.there, few_steps c.args.plant)
+pub overflow_add-len : goal.overflow_add-len
+overflow_add-len c = omega (arith, c.in-Some.ensures.there, few_steps c.args.plant)
 
-pub overflow-add-i : goal.overflow-add-i
-overflow-add-i c = omega (arith, c.in-Some.ensures.there, few_steps c.args.plant)
+pub overflow_add-i : goal.overflow_add-i
+overflow_add-i c = omega (arith, c.in-Some.ensures.there, few_steps c.args.plant)
 
 pub loop-step-preserved : goal.loop-step-preserved
 loop-step-preserved c =
@@ -24,4 +24,4 @@ loop-step-preserved c =
     ]
 
 pub returns : goal.returns
-returns c = leave_all c.args.plant c.loop-step.invariant c.in-default.ensures (omega arith)
+returns c = leave_all c.args.plant c.loop-step.invariant c.in_default.ensures (omega arith)

@@ -5,19 +5,19 @@ use Rattle.predictability.proofs.rows.lay.Goals as goal
 pub runs-rows-requires : goal.runs-rows-requires
 runs-rows-requires c = record { calm = c.requires.calm; caught = c.requires.caught; room = omega (arith, few_pairs c.args.calm) }
 
-pub slice-bounds-lay-rows-end : goal.slice-bounds-lay-rows-end
-slice-bounds-lay-rows-end c = omega (arith, few_pairs c.args.plant, c.runs-rows.ensures.short_left)
+pub slice_bounds-lay_rows-end : goal.slice_bounds-lay_rows-end
+slice_bounds-lay_rows-end c = omega (arith, few_pairs c.args.plant, c.runs-rows.ensures.short_left)
 
-pub slice-bounds-lay-rows-end-2 : goal.slice-bounds-lay-rows-end-2
-slice-bounds-lay-rows-end-2 c = omega (arith, few_pairs c.args.plant, c.runs-rows.ensures.short_left, c.runs-rows.ensures.short_right)
+pub slice_bounds-lay_rows-end-2 : goal.slice_bounds-lay_rows-end-2
+slice_bounds-lay_rows-end-2 c = omega (arith, few_pairs c.args.plant, c.runs-rows.ensures.short_left, c.runs-rows.ensures.short_right)
 
-pub lay-rows-requires : goal.lay-rows-requires
-lay-rows-requires c = record {
+pub lay_rows-requires : goal.lay_rows-requires
+lay_rows-requires c = record {
   there = c.requires.caught.column;
   lasts = c.requires.caught.lasts;
-  fits = rows_fit c.args.plant c.args.events-ahead c.args.events c.args.pair c.runs-rows.result c.runs-rows.new.room c.args.room.now (omega arith) c.requires.events c.runs-rows.ensures c.requires.room;
+  fits = rows_fit c.args.plant c.args.events_ahead c.args.events c.args.pair c.runs-rows.result c.runs-rows.new.room c.args.room.now (omega arith) c.requires.events c.runs-rows.ensures c.requires.room;
 }
 
 pub returns : goal.returns
 returns c =
-    laid_missed c.args.plant c.args.events-ahead c.args.events c.args.pair c.runs-rows.result c.runs-rows.new.room c.args.room.now (omega arith) c.requires.events c.runs-rows.ensures c.requires.room c.strike-fault.result c.lay-rows.new.room c.strike-fault.ensures (omega arith) c.lay-rows.ensures
+    laid_missed c.args.plant c.args.events_ahead c.args.events c.args.pair c.runs-rows.result c.runs-rows.new.room c.args.room.now (omega arith) c.requires.events c.runs-rows.ensures c.requires.room c.strike-fault.result c.lay_rows.new.room c.strike-fault.ensures (omega arith) c.lay_rows.ensures

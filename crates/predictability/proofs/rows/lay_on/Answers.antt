@@ -7,8 +7,8 @@ returns c =
     let other = c.args.other.now in
     let room = c.args.room.now in
     record {
-      later = c.go-on.new.row;
-      on = c.go-on.ensures;
-      many = c.go-on.auto.row ∙ on_size other room c.copy-from-slice.new.self c.args.events c.copy-from-slice.ensures.after c.requires.fits;
-      is = on_is other room c.copy-from-slice.new.self c.args.events c.copy-from-slice.ensures.after c.go-on.new.row;
+      later = c.go_on.new.row;
+      on = c.go_on.ensures;
+      many = c.go_on.auto.row ∙ on_size other room c.copy_from_slice.new.self c.args.events c.copy_from_slice.ensures.after c.requires.fits;
+      is = on_is other room c.copy_from_slice.new.self c.args.events c.copy_from_slice.ensures.after c.go_on.new.row;
     }
