@@ -1,2 +1,5 @@
+pub mod Texts
 pub mod Signs
 pub mod Lines
+pub mod Heard
+pub mod Sizes

@@ -7,10 +7,10 @@ loop-word-init c = begun _ c.new-listener.result (map string_bytes c.args.words.
 
 pub loop-word-preserved : goal.loop-word-preserved
 loop-word-preserved c =
-    next_more _ c.loop-word.listener c.hear-line.new.self (string_bytes c.word-item.result) c.as-bytes.result.now _ _ _ c.hear-line.result (string_bytes c.loop-word.out) _
+    next_more _ c.loop-word.listener c.hear-line.new.self (string_bytes c.word-item.result) c.as_bytes.result.now _ _ _ c.hear-line.result (string_bytes c.loop-word.out) _
     (words_more c.args.words.now c.loop-word.word-index c.word-item.result c.loop-word-test.true c.word-item.is)
-    (c.as-bytes.ensures.value ∙ c.as-str.ensures.value)
-    c.loop-word.invariant c.hear-line.ensures.plant c.hear-line.ensures.hears c.hear-line.ensures.next c.in-ok-write.ensures.bytes
+    (c.as_bytes.ensures.value ∙ c.as_str.ensures.value)
+    c.loop-word.invariant c.hear-line.ensures.plant c.hear-line.ensures.hears c.hear-line.ensures.next c.in_ok-write.ensures.bytes
 
 pub returns : goal.returns
 returns c = ended _ c.loop-word.listener _ _ _ (words_all c.args.words.now c.loop-word.word-index c.loop-word-test.false) c.loop-word.invariant

@@ -1,5 +1,5 @@
 -- The picture of what was opened. Assumes nothing.
-use Rattle.std.proofs.Common.{◌≡◌, ℕ, List, map, sym, ap, ◌∙◌, subst}
+use Rattle.std.proofs.Common.{◌≡◌, ℕ, List, map, ap, ◌∙◌}
 use Rattle.drawing.specs.Drawn.{Drawn, Kind, drawn}
 use Rattle.picture.specs.declared.edges.Edge.{Edge}
 use Rattle.picture.specs.Pictures.{arrow_of, picture}

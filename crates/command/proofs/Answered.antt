@@ -4,7 +4,6 @@ use Rattle.std.proofs.lemmas.List.{length-map, get_or-map, drop_more, drop_all}
 use Rattle.plant.specs.Plant.{Plant}
 use Rattle.plant.specs.Model.{model}
 use Rattle.observer.specs.Marks.{Right}
-use Rattle.observer.specs.Words.{FollowedTo, Heard, Said}
 use Rattle.observer.specs.declared.memory.Memory.{Memory}
 use Rattle.command.specs.declared.listening.Line.{Line}
 use Rattle.command.specs.declared.listening.Listener.{Listener}

@@ -1,9 +1,8 @@
 -- A verdict on what was opened. Assumes nothing.
-use Rattle.std.proofs.Common.{◌≡◌, ℕ, ◌*◌, ◌≤◌, false, cond, ltb, List, length, is_some, Some, None, Ok, Option, sym, refl, ap, ◌∙◌, subst, mul-le-mul_right, arith}
+use Rattle.std.proofs.Common.{◌≡◌, ℕ, ◌*◌, ◌≤◌, false, cond, List, length, is_some, Some, None, sym, ap, ◌∙◌, subst, mul-le-mul_right, arith}
 use Rattle.std.proofs.lemmas.Bool.{le-ltb}
 use Rattle.plant.specs.Numbers.{plant_in}
-use Rattle.plant.specs.Refusals.{refusal, or_else}
-use Rattle.plant.specs.declared.parts.Refusal.{Refusal}
+use Rattle.plant.specs.Refusals.{refusal}
 use Rattle.plant.specs.declared.parts.Refusal.TheVariants.{Room}
 use Rattle.plant.proofs.Valid.{lent_valid, refused_or_valid}
 use Rattle.diagnosability.specs.Verdict.{VerdictSays, judge_refusal, room_refusal}
