@@ -8,7 +8,7 @@ use Rattle.observer.specs.declared.memory.Memory.{Memory}
 use Rattle.command.specs.declared.listening.Line.{Line}
 use Rattle.command.specs.declared.listening.Listener.{Listener}
 use Rattle.command.specs.declared.signs.Unread.{Unread}
-use Rattle.command.specs.Heard.{Lines-so-far}
+use Rattle.command.proofs.Heard.{LinesSoFar}
 use Rattle.command.specs.Lines.{Hears, LineFor, LinesFor, counted, line, signs_after}
 use Rattle.command.specs.Signs.{sign_of}
 
@@ -27,7 +27,7 @@ goes_on p k os (Ok (suc o)) m m₁ l right h =
 goes_on p k os (Err u) m m₁ l right h = record { right = subst (Right p os) (sym h.1) right; for = h.0 }
 
 -- before any word
-pub begun : (p : Plant) (listener : Listener) (ws : List (List ℕ)) (bytes : List ℕ) → model listener.follower.plant ≡ p → Right p [] listener.follower.memory → listener.place ≡ 0 → bytes ≡ [] → Lines-so-far p listener (drop 0 ws) ws bytes
+pub begun : (p : Plant) (listener : Listener) (ws : List (List ℕ)) (bytes : List ℕ) → model listener.follower.plant ≡ p → Right p [] listener.follower.memory → listener.place ≡ 0 → bytes ≡ [] → LinesSoFar p listener (drop 0 ws) ws bytes
 begun p listener ws bytes plant right first none =
     record {
       plant = plant;
@@ -38,10 +38,10 @@ begun p listener ws bytes plant right first none =
 
 -- one word more
 one_more :
-    (p : Plant) (before after : Listener) (w : List ℕ) (ws all : List (List ℕ)) (l : Line) (bytes bytes₁ : List ℕ) → Lines-so-far p before (w ∷ ws) all bytes
+    (p : Plant) (before after : Listener) (w : List ℕ) (ws all : List (List ℕ)) (l : Line) (bytes bytes₁ : List ℕ) → LinesSoFar p before (w ∷ ws) all bytes
     → after.follower.plant ≡ before.follower.plant
     → Hears (model before.follower.plant) before.place (sign_of w) before.follower.memory after.follower.memory l → after.place ≡ counted before.place
-    → bytes₁ ≡ bytes ++ (line l ++ codes "\n") → Lines-so-far p after ws all bytes₁
+    → bytes₁ ≡ bytes ++ (line l ++ codes "\n") → LinesSoFar p after ws all bytes₁
 one_more p before after w ws all l bytes bytes₁ s same hears next more =
     let g = goes_on p before.place s.signs (sign_of w) _ after.follower.memory l s.right (subst (λ q. Hears q before.place (sign_of w) before.follower.memory after.follower.memory l) s.plant hears) in
     record {
@@ -58,16 +58,16 @@ one_more p before after w ws all l bytes bytes₁ s same hears next more =
 
 -- the same of the word that comes next, as it is lent
 pub next_more :
-    (p : Plant) (before after : Listener) (w heard : List ℕ) (to-come ws all : List (List ℕ)) (l : Line) (bytes bytes₁ : List ℕ) → to-come ≡ w ∷ ws → heard ≡ w
-    → Lines-so-far p before to-come all bytes → after.follower.plant ≡ before.follower.plant
+    (p : Plant) (before after : Listener) (w heard : List ℕ) (to_come ws all : List (List ℕ)) (l : Line) (bytes bytes₁ : List ℕ) → to_come ≡ w ∷ ws → heard ≡ w
+    → LinesSoFar p before to_come all bytes → after.follower.plant ≡ before.follower.plant
     → Hears (model before.follower.plant) before.place (sign_of heard) before.follower.memory after.follower.memory l → after.place ≡ counted before.place
-    → bytes₁ ≡ bytes ++ (line l ++ codes "\n") → Lines-so-far p after ws all bytes₁
-next_more p before after w heard to-come ws all l bytes bytes₁ first is s same hears next more =
-    one_more p before after w ws all l bytes bytes₁ (subst (λ v. Lines-so-far p before v all bytes) first s) same
+    → bytes₁ ≡ bytes ++ (line l ++ codes "\n") → LinesSoFar p after ws all bytes₁
+next_more p before after w heard to_come ws all l bytes bytes₁ first is s same hears next more =
+    one_more p before after w ws all l bytes bytes₁ (subst (λ v. LinesSoFar p before v all bytes) first s) same
     (subst (λ v. Hears (model before.follower.plant) before.place (sign_of v) before.follower.memory after.follower.memory l) is hears) next more
 
 -- no word is left
-pub ended : (p : Plant) (listener : Listener) (ws all : List (List ℕ)) (bytes : List ℕ) → ws ≡ [] → Lines-so-far p listener ws all bytes → LinesFor p 0 [] all bytes
+pub ended : (p : Plant) (listener : Listener) (ws all : List (List ℕ)) (bytes : List ℕ) → ws ≡ [] → LinesSoFar p listener ws all bytes → LinesFor p 0 [] all bytes
 ended p listener ws all bytes none s = subst (LinesFor p 0 [] all) (append-nil bytes) (s.whole [] (subst (λ v. LinesFor p listener.place s.signs v []) (sym none) refl))
 
 module _ {Z : Type 0} (ns : List (String Z)) (i : ℕ) where

@@ -4,7 +4,7 @@ use Rattle.plant.specs.Plant.{Plant}
 use Rattle.observer.specs.declared.memory.Memory.{Memory}
 use Rattle.observer.specs.declared.words.Word.{Word}
 use Rattle.observer.specs.declared.words.Word.TheVariants.{Bad, Good, Either, Neither, Refused}
-use Rattle.observer.specs.Words.{Heard, Said as Known-after}
+use Rattle.observer.specs.Words.{Heard, Said as KnownAfter}
 use Rattle.command.specs.declared.listening.Line.{Line}
 use Rattle.command.specs.declared.listening.Line.TheVariants.{Said, Turned}
 use Rattle.command.specs.declared.signs.Unread.{Unread}
@@ -36,7 +36,7 @@ signs_after os (Err u) = os
 
 -- the line for the word at place k, by what it says: the word that is known after the signs so far, or the rule and the place
 abbrev pub LineFor : Plant → (k : ℕ) → (os : List ℕ) → Result ℕ Unread → Line → Type 0
-LineFor p k os (Ok o) l = (w : Word) × (l ≡ Said w) × Known-after p (signs_after os (Ok o)) w
+LineFor p k os (Ok o) l = (w : Word) × (l ≡ Said w) × KnownAfter p (signs_after os (Ok o)) w
 LineFor p k os (Err u) l = l ≡ Turned (number_of u) k
 
 -- a line for each word, those before it having been k, with the signs os

@@ -4,7 +4,9 @@
 mod pair_set;
 mod rows;
 mod state_set;
+mod theorems;
 mod word;
 
 pub use pair_set::PairSet;
 pub use state_set::StateSet;
+pub use theorems::same_rows_tell;

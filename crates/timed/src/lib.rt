@@ -1,4 +1,4 @@
-// The entries as functions that a Rust program can link, for measuring them beside plain Rust (bench/run). They promise nothing of their own: bench/run compares each answer with plain Rust's before it measures.
+// The entries as functions whose answers are numbers, for measuring them beside plain Rust (bench/run), which links them by `timed_c`. They promise nothing of their own: bench/run compares each answer with plain Rust's before it measures.
 #![tactic(auto)]
 
 use diagnosability::{Verdict, judge};
@@ -18,8 +18,7 @@ fn code(word: Word) -> u64 {
 }
 
 // One sign through the entry, which checks the plant.
-#[unsafe(no_mangle)]
-pub extern "C" fn timed_follow(
+pub fn timed_follow(
     states: u64,
     arrows: &[u16],
     events: &[u16],
@@ -46,19 +45,12 @@ fn all_signs<'a>(states: u64, arrows: &'a [u16], events: &'a [u16], signs: &[u8]
 }
 
 // Many signs through a follower, which checks the plant once: the words, folded into a number.
-#[unsafe(no_mangle)]
-pub extern "C" fn timed_signs(states: u64, arrows: &[u16], events: &[u16], signs: &[u8]) -> u64 {
+pub fn timed_signs(states: u64, arrows: &[u16], events: &[u16], signs: &[u8]) -> u64 {
     all_signs(states, arrows, events, signs)
 }
 
 // A verdict as a number: the number of events, or 1,000,000 and more where a fault hides.
-#[unsafe(no_mangle)]
-pub extern "C" fn timed_judge(
-    states: u64,
-    arrows: &[u16],
-    events: &[u16],
-    room: &mut [u16],
-) -> u64 {
+pub fn timed_judge(states: u64, arrows: &[u16], events: &[u16], room: &mut [u16]) -> u64 {
     match judge(states, arrows, events, room) {
         Verdict::Out(events) => events,
         Verdict::Hidden(_, _, _, _) => 1_000_000,
@@ -67,8 +59,7 @@ pub extern "C" fn timed_judge(
 }
 
 // A choice as a number: the sum, or one of the largest numbers where there is none.
-#[unsafe(no_mangle)]
-pub extern "C" fn timed_choose(
+pub fn timed_choose(
     states: u64,
     arrows: &[u16],
     events: &[u16],
