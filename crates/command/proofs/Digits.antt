@@ -2,7 +2,7 @@
 use Rattle.std.proofs.Common.{◌≡◌, ℕ, ◌+◌, ◌-◌, ◌*◌, ◌<◌, ◌≤◌, min, Bool, true, false, ◌&&◌, List, [], ◌∷◌, length, get_or, drop, Ok, Err, sym, refl, ap, ◌∙◌, ⊎_elim, arith}
 use Rattle.std.proofs.lemmas.List.{at_drop_more, at_drop_all}
 use Rattle.std.proofs.lemmas.Bool.{cases_lt, le-leb, lt-leb}
-use Rattle.command.specs.declared.signs.Unread.TheVariants.{TooLarge, NoNumber}
+use Rattle.plant.specs.declared.parts.Refusal.TheVariants.{Memory, Text}
 use Rattle.command.specs.Signs.{digit, digits, value_from, in_range, sign_of}
 
 -- digits only make a number larger
@@ -48,28 +48,28 @@ unfolding value_from
 value_end w i n h = at_drop_all (value_from n) w i h
 
 -- what a word says
-pub no_sign : (w : List ℕ) → digits w ≡ false → sign_of w ≡ Err NoNumber
-no_sign [] e = refl
-no_sign (b ∷ bs) e = rw e
+pub no_sign : (k : ℕ) (w : List ℕ) → digits w ≡ false → sign_of k w ≡ Err (Text k)
+no_sign k [] e = refl
+no_sign k (b ∷ bs) e = rw e
 
-pub number_says : (w : List ℕ) → 0 < length w → digits w ≡ true → sign_of w ≡ in_range (value_from 0 w)
-number_says [] h e = absurd (omega arith)
-number_says (b ∷ bs) h e = rw e
+number_says : (k : ℕ) (w : List ℕ) → 0 < length w → digits w ≡ true → sign_of k w ≡ in_range k (value_from 0 w)
+number_says k [] h e = absurd (omega arith)
+number_says k (b ∷ bs) h e = rw e
 
 -- all was read, and v is what it said
-module _ (w : List ℕ) (i v : ℕ) (some : 0 < length w) (end : length w ≤ i) (same : digits w ≡ digits (drop i w)) (said : min (value_from 0 w) 256 ≡ min (value_from v (drop i w)) 256) where
-  reads : sign_of w ≡ in_range (value_from 0 w)
-  reads = number_says w some (same ∙ digits_end w i end)
+module _ (k : ℕ) (w : List ℕ) (i v : ℕ) (some : 0 < length w) (end : length w ≤ i) (same : digits w ≡ digits (drop i w)) (said : min (value_from 0 w) 256 ≡ min (value_from v (drop i w)) 256) where
+  reads : sign_of k w ≡ in_range k (value_from 0 w)
+  reads = number_says k w some (same ∙ digits_end w i end)
 
   value_said : min (value_from 0 w) 256 ≡ min v 256
   value_said = said ∙ ap (λ (n : ℕ). min n 256) (value_end w i v end)
 
-  pub says_large : 255 < v → sign_of w ≡ Err TooLarge
+  pub says_large : 255 < v → sign_of k w ≡ Err (Memory k)
   says_large h =
       let large : 255 < value_from 0 w = let e = value_said in omega arith in
       reads ∙ rw (lt-leb (value_from 0 w) 255 large)
 
-  pub says_sign : v ≤ 255 → sign_of w ≡ Ok v
+  pub says_sign : v ≤ 255 → sign_of k w ≡ Ok v
   says_sign h =
       let is : value_from 0 w ≡ v = let e = value_said in omega arith in
       reads ∙ rw (is, le-leb v 255 h)

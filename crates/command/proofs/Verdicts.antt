@@ -1,11 +1,12 @@
 -- A verdict on what was opened. Assumes nothing.
-use Rattle.std.proofs.Common.{◌≡◌, ℕ, ◌*◌, ◌≤◌, false, cond, List, length, is_some, Some, None, sym, ap, ◌∙◌, subst, mul-le-mul_right, arith}
+use Rattle.std.proofs.Common.{◌≡◌, ℕ, ◌*◌, ◌≤◌, cond, List, Some, None, Ok, Err, Result, ap, ◌∙◌, subst, mul-le-mul_right, arith, refl, IsOk}
 use Rattle.std.proofs.lemmas.Bool.{le-ltb}
-use Rattle.plant.specs.Numbers.{plant_in}
+use Rattle.plant.specs.Plant.{Plant}
 use Rattle.plant.specs.Refusals.{refusal}
+use Rattle.plant.specs.declared.parts.Refusal.{Refusal}
 use Rattle.plant.specs.declared.parts.Refusal.TheVariants.{Room}
-use Rattle.plant.proofs.Valid.{lent_valid, refused_or_valid}
-use Rattle.diagnosability.specs.Verdict.{VerdictSays, judge_refusal, room_refusal}
+use Rattle.plant.proofs.Valid.{refused_or_valid}
+use Rattle.diagnosability.specs.Verdict.{Judges, judge_refusal, room_refusal}
 use Rattle.diagnosability.specs.declared.verdict.Verdict.{Verdict}
 use Rattle.drawing.specs.Drawn.{Drawn, drawn}
 use Rattle.wording.specs.Sentences.{sentence}
@@ -21,34 +22,30 @@ unfolding room_refusal
 roomy n le = ap (λ b. cond b (Some (Room 8192)) None) (le-ltb 8192 (8 * (n * n)) (omega (arith, square n le)))
 
 -- the largest room that is asked for is enough for every plant
-pub enough : (n : ℕ) (xs es : List ℕ) → is_some (refusal n xs es) ≡ false → judge_refusal n xs es 8192 ≡ None
-enough n xs es e =
-    let v = lent_valid n xs es e in
-    rw ((refused_or_valid n xs es).1 v) (roomy n v.few_states)
+pub enough : (n : ℕ) (xs es : List ℕ) (room : ℕ) → refusal n xs es ≡ None → room ≡ 8192 → judge_refusal n xs es room ≡ None
+enough n xs es room e long =
+    let v = (refused_or_valid n xs es).0 e in
+    rw (long, e) (roomy n v.few_states)
 
--- what was opened, as it is lent to the judge
-pub holds :
-    (n : ℕ) (xs es lent-xs lent-es room room₁ after : List ℕ) (v : Verdict) → is_some (refusal n xs es) ≡ false → lent-xs ≡ xs → lent-es ≡ es → length room ≡ 8192
-    → VerdictSays (judge_refusal n lent-xs lent-es (length room)) (plant_in lent-xs lent-es) room v room₁ → after ≡ room₁ → Holds (plant_in xs es) v after
-holds n xs es lent-xs lent-es room room₁ after v valid same-xs same-es long says kept =
-    let none : judge_refusal n xs es (length room) ≡ None = ap (judge_refusal n xs es) long ∙ enough n xs es valid in
-    record {
-      lent = room;
-      says =
-          subst (VerdictSays None (plant_in xs es) room v) (sym kept)
-          (subst (λ o. VerdictSays o (plant_in xs es) room v room₁) none
-          (subst (λ l. VerdictSays (judge_refusal n xs l (length room)) (plant_in xs l) room v room₁) same-es
-          (subst (λ l. VerdictSays (judge_refusal n l lent-es (length room)) (plant_in l lent-es) room v room₁) same-xs says)));
-    }
+module _ (refused : _) (p : Plant) (room room₁ : List ℕ) (none : refused ≡ None) where
+  -- where no rule turns away what is lent there is a verdict
+  pub answered : (r : Result Verdict Refusal) → Judges refused p room r room₁ → IsOk r
+  answered (Ok v) j = refl
+  answered (Err e) j = let is = j.0 in cc
 
--- what was opened is what is drawn
+  -- and it holds of the plant
+  pub holds : (v : Verdict) → Judges refused p room (Ok v) room₁ → Holds p v room₁
+  holds v j = record { lent = room; says = j.1 }
+
+-- what was opened is what is drawn: its sentence, by its parts as they are lent
 pub judged :
-    {f : Faults} {d : Drawn} {o : Opened} {bytes : List ℕ} {v : Verdict} {room : List ℕ} → OpenedAs f d o → Holds (opened_plant o) v room
-    → bytes ≡ sentence (drawn o.drawing).labels v room → Judged d.labels (plant_of f d) bytes
-judged {f} {d} {o} {bytes} {v} {room} a h text =
+    {f : Faults} {d : Drawn} {o : Opened} {bytes : List ℕ} {v : Verdict} {room : List ℕ} → OpenedAs f d o → Holds (opened_plant o) v room → (ws : List (List ℕ)) (said : Verdict) (lent : List ℕ)
+    → ws ≡ (drawn o.drawing).labels → said ≡ v → lent ≡ room → bytes ≡ sentence ws said lent → Judged d.labels (plant_of f d) bytes
+judged {f} {d} {o} {bytes} {v} {room} a h ws said lent names same kept text =
+    let labels : ws ≡ d.labels = names ∙ ap (λ e. e.labels) a.drawing in
     record {
       verdict = v;
       room = room;
       holds = subst (λ p. Holds p v room) a.plant h;
-      text = text ∙ ap (λ e. sentence e.labels v room) a.drawing;
+      text = text ∙ (λ j. sentence (labels j) (same j) (kept j));
     }

@@ -1,7 +1,7 @@
 -- Which sign a word says. These are definitions and assume nothing.
 use Rattle.std.specs.Prelude.{ℕ, ◌+◌, ◌-◌, ◌*◌, Bool, true, cond, ◌&&◌, List, [], ◌∷◌, Ok, Err, Result, nat_le}
-use Rattle.command.specs.declared.signs.Unread.{Unread}
-use Rattle.command.specs.declared.signs.Unread.TheVariants.{TooLarge, NoNumber}
+use Rattle.plant.specs.declared.parts.Refusal.{Refusal}
+use Rattle.plant.specs.declared.parts.Refusal.TheVariants.{Memory, Text}
 
 abbrev pub digit : ℕ → Bool
 digit b = nat_le 48 b && nat_le b 57
@@ -15,15 +15,12 @@ unfoldable pub value_from : ℕ → List ℕ → ℕ
 value_from n [] = n
 value_from n (b ∷ bs) = value_from (10 * n + (b - 48)) bs
 
-abbrev pub in_range : ℕ → Result ℕ Unread
-in_range n = cond (nat_le n 255) (Ok n) (Err TooLarge)
+-- 5: a sign above 255
+abbrev pub in_range : (place : ℕ) → ℕ → Result ℕ Refusal
+in_range k n = cond (nat_le n 255) (Ok n) (Err (Memory k))
 
 -- a row of digits is a number, however long; a sign is at most 255
-abbrev pub sign_of : List ℕ → Result ℕ Unread
-sign_of [] = Err NoNumber
-sign_of (b ∷ bs) = cond (digits (b ∷ bs)) (in_range (value_from 0 (b ∷ bs))) (Err NoNumber)
-
--- the numbers of the two refusals
-abbrev pub number_of : Unread → ℕ
-number_of TooLarge = 5
-number_of NoNumber = 6
+-- 6: a word at place k that is no row of digits
+abbrev pub sign_of : (place : ℕ) → List ℕ → Result ℕ Refusal
+sign_of k [] = Err (Text k)
+sign_of k (b ∷ bs) = cond (digits (b ∷ bs)) (in_range k (value_from 0 (b ∷ bs))) (Err (Text k))

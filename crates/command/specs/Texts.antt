@@ -53,7 +53,7 @@ pub record OpenedAs (f : Faults) (d : Drawn) (o : Opened) : Type 0 where
 -- a verdict holds of a plant, its rows standing in this room
 pub record Holds (p : Plant) (verdict : Verdict) (room : List ℕ) : Type 0 where
   pub lent : List ℕ
-  pub says : VerdictSays None p lent verdict room
+  pub says : VerdictSays p lent verdict room
 
 -- the sentence of a verdict that holds of the plant
 pub record Judged (ws : List (List ℕ)) (p : Plant) (bytes : List ℕ) : Type 0 where

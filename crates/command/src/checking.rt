@@ -8,7 +8,8 @@ use sorts::Faults;
 use std::alloc::Global;
 use wording::Trouble;
 
-fn size(heap: Global, text: &[u8]) -> Result<String, Trouble>
+// How many states, events and arrows the plant has that a text draws.
+pub fn check(heap: Global, text: &[u8]) -> Result<String, Trouble>
     ensures { Answers (drawn_refusal Any) SizeOf text.now result }
 {
     let opened = open(heap, text, Faults::Any)?;
@@ -16,11 +17,4 @@ fn size(heap: Global, text: &[u8]) -> Result<String, Trouble>
     let events = opened.drawing.events().len();
     let arrows = opened.drawing.arrows().len();
     Ok(format!(in heap; "{states} states, {events} events, {arrows} arrows")?)
-}
-
-// How many states, events and arrows the plant has that a text draws.
-pub fn check(heap: Global, text: &[u8]) -> Result<String, Trouble>
-    ensures { Answers (drawn_refusal Any) SizeOf text.now result }
-{
-    size(heap, text)
 }

@@ -3,25 +3,15 @@ ghost use Rattle.std.specs.Prelude.{◌≡◌, ℕ, [], map, IfOk, string_bytes}
 ghost use Rattle.plant.specs.Model.{model};
 ghost use Rattle.command.specs.Lines.{LinesFor};
 ghost use Rattle.sorts.specs.declared.kinds.Faults.TheVariants.{Any};
-ghost use Rattle.command.specs.Texts.{Answers, drawn_refusal, opened_plant, plant_of};
+ghost use Rattle.command.specs.Texts.{Answers, drawn_refusal, plant_of};
 
 use crate::listening::Listener;
 use crate::opening::open;
-use crate::valid::Opened;
 use plant::Plant;
 use sorts::Faults;
 use std::alloc::Global;
 use std::fmt;
 use wording::Trouble;
-
-impl Opened {
-    // The plant that is drawn.
-    pub fn plant(&self) -> Plant<'_>
-        ensures { model result ≡ opened_plant self.now }
-    {
-        Plant::new(self.states, self.arrows.as_slice(), self.marked.events())
-    }
-}
 
 fn lines(heap: Global, plant: Plant, words: &[String]) -> Result<String, fmt::Error>
     ensures { IfOk result (λ s. LinesFor (model plant.entry) 0 [] (map string_bytes words.now) (string_bytes s)) }
@@ -29,8 +19,10 @@ fn lines(heap: Global, plant: Plant, words: &[String]) -> Result<String, fmt::Er
     let mut listener = Listener::new(plant);
     let mut out = String::new(heap);
     for word in words {
-        let line = listener.hear(word.as_str().as_bytes());
-        write!(out, "{line}\n")?;
+        match listener.hear(word.as_str().as_bytes()) {
+            Ok(known) => write!(out, "{known}\n")?,
+            Err(refusal) => write!(out, "{refusal}\n")?,
+        }
     }
     Ok(out)
 }

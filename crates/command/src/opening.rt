@@ -3,6 +3,7 @@ ghost use Rattle.command.specs.Texts.{Answers, drawn_refusal, OpenedAs};
 
 use crate::valid::Opened;
 use drawing::read;
+use plant::Numbers;
 use sorts::{Faults, choose};
 use std::alloc::Global;
 use wording::Trouble;
@@ -15,7 +16,12 @@ pub fn open(heap: Global, text: &[u8], faults: Faults) -> Result<Opened, Trouble
     let states = drawing.states();
     let arrows = drawing.arrow_numbers(heap)?;
     let events = drawing.event_numbers(heap)?;
-    let marked = choose(states, arrows.as_slice(), events.as_slice(), faults)?;
+    let numbers = Numbers {
+        states,
+        arrows: arrows.as_slice(),
+        events: events.as_slice(),
+    };
+    let marked = choose(numbers, faults)?;
     Ok(Opened {
         drawing,
         states,

@@ -7,7 +7,7 @@ use Rattle.plant.specs.Plant.{Plant, Hides}
 use Rattle.plant.specs.Twin.{Twin}
 use Rattle.plant.proofs.Judged.{walks_hide}
 use Rattle.witness.specs.declared.moves.Pair.{Pair}
-use Rattle.witness.specs.declared.moves.Mark.TheVariants.{Fault, Any}
+use Rattle.plant.specs.declared.parts.Mark.TheVariants.{Fault, Any}
 use Rattle.witness.specs.declared.rows.Rows.{Rows}
 use Rattle.witness.specs.Traced.{Shown}
 use Rattle.diagnosability.specs.Verdict.{part, HiddenIn}
@@ -48,7 +48,7 @@ module _ (p : Plant) (n : ℕ) (knot : Pair) (r q : Rows) (room xs ys : List ℕ
       let at = add_assoc r.left r.right (q.left + q.right) in
       ap (λ (k : ℕ). drop k whole) (sym at) ∙ lent_rest used xs ys there same room (q.left + q.right) runs.laid.rest rounds.laid.rest ∙ ap (λ (k : ℕ). drop k room) at
 
-  pub all_laid : HiddenIn p r.left r.right q.left q.right room whole
+  pub all_laid : HiddenIn p (record { bad = r.left; good = r.right; bad_round = q.left; good_round = q.right }) room whole
   all_laid = record {
     s = knot.left;
     t = knot.right;

@@ -3,7 +3,7 @@ ghost use Rattle.std.specs.Prelude.{◌≡◌, ◌≤◌};
 ghost use Rattle.plant.specs.Checked.{checked};
 ghost use Rattle.diagnosability.specs.Verdict.{judge_refusal, room_refusal};
 
-use plant::{Plant, Refusal};
+use plant::{Numbers, Plant, Refusal};
 
 // Less than eight places for each pair of states.
 fn check_room(states: u64, room: u64) -> Result<(), Refusal>
@@ -17,14 +17,9 @@ fn check_room(states: u64, room: u64) -> Result<(), Refusal>
 }
 
 // Whether these numbers make a plant and the room is large enough: an error is the first rule that turns them away.
-pub fn check<'a>(
-    states: u64,
-    arrows: &'a [u16],
-    events: &'a [u16],
-    room: u64,
-) -> Result<(), Refusal>
-    ensures { result ≡ checked (judge_refusal states arrows.now events.now room) }
+pub fn check(numbers: Numbers, room: u64) -> Result<(), Refusal>
+    ensures { result ≡ checked (judge_refusal numbers.entry.states numbers.entry.arrows.now numbers.entry.events.now room) }
 {
-    plant::check(states, arrows, events)?;
-    check_room(Plant::new(states, arrows, events).states(), room)
+    let plant = Plant::try_from(numbers)?;
+    check_room(plant.states(), room)
 }

@@ -10,4 +10,4 @@ mod verdict;
 pub use checks::check;
 pub use entry::judge;
 pub use theorems::verdict_one;
-pub use verdict::Verdict;
+pub use verdict::{HiddenRows, Lengths, Verdict};

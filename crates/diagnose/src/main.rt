@@ -7,11 +7,10 @@ mod worked;
 
 use following::{follow_input, follow_words};
 use judging::judge_all;
-use plant::{Plant, Refusal, check};
-use std::env;
+use plant::Plant;
 use std::env::Args;
 use std::process::ExitCode;
-use worked::Drawing;
+use std::{env, fmt};
 
 const USAGE: &str = "usage:
   diagnose judge NAME...          whether every fault comes out, and after how many events, or which runs hide one
@@ -20,25 +19,14 @@ const USAGE: &str = "usage:
   diagnose help
 NAME is a built-in worked plant: told, untold, later, sound, still, brief, broken";
 
-// The refusal as the program says it.
-pub(crate) fn turned_away(rt: &HostRuntime, refusal: Refusal) -> anyhow::Result<String> {
-    let number = refusal.number();
-    let place = refusal.place();
-    Ok(format!(in rt.alloc(); "turned away: {number} at {place}")?)
-}
-
 // Says on standard error why something has no answer.
-fn refuse(rt: &HostRuntime, text: &str) -> anyhow::Result<bool> {
-    eprintln!(rt; "{text}")?;
+fn refuse<D: fmt::Display + Drop>(rt: &HostRuntime, why: D) -> anyhow::Result<bool> {
+    eprintln!(rt; "{why}")?;
     Ok(false)
 }
 
-// How large a plant is, or why its numbers make none.
-fn print_check(rt: &HostRuntime, drawing: Drawing) -> anyhow::Result<bool> {
-    if let Err(refusal) = check(drawing.states, drawing.arrows, drawing.events) {
-        return refuse(rt, turned_away(rt, refusal)?.as_str());
-    }
-    let plant = Plant::new(drawing.states, drawing.arrows, drawing.events);
+// How large a plant is.
+fn print_size(rt: &HostRuntime, plant: Plant) -> anyhow::Result<bool> {
     let states = plant.states();
     let events = plant.event_count();
     let arrows = plant.arrow_count();
@@ -46,11 +34,7 @@ fn print_check(rt: &HostRuntime, drawing: Drawing) -> anyhow::Result<bool> {
     Ok(true)
 }
 
-fn follow(rt: &HostRuntime, drawing: Drawing, signs: Args) -> anyhow::Result<bool> {
-    if let Err(refusal) = check(drawing.states, drawing.arrows, drawing.events) {
-        return refuse(rt, turned_away(rt, refusal)?.as_str());
-    }
-    let plant = Plant::new(drawing.states, drawing.arrows, drawing.events);
+fn follow(rt: &HostRuntime, plant: Plant, signs: Args) -> anyhow::Result<bool> {
     if signs.len() == 0 {
         follow_input(rt, plant)
     } else {
@@ -58,10 +42,22 @@ fn follow(rt: &HostRuntime, drawing: Drawing, signs: Args) -> anyhow::Result<boo
     }
 }
 
-// The built-in plant of the name that comes next.
-fn next_drawing(args: &mut Args) -> Option<Drawing> {
-    let name = args.next()?;
-    worked::find(name.as_str())
+// The built-in plant of the name that comes next, as what is asked for takes it.
+fn with_plant<F>(rt: &HostRuntime, mut args: Args, act: F) -> anyhow::Result<bool>
+where
+    F: FnOnce(Plant, Args) -> anyhow::Result<bool>,
+    requires { F.IsAlwaysCallable act }
+{
+    let Some(name) = args.next() else {
+        return refuse(rt, USAGE);
+    };
+    let Some(numbers) = worked::find(name.as_str()) else {
+        return refuse(rt, USAGE);
+    };
+    match Plant::try_from(numbers) {
+        Ok(plant) => act(plant, args),
+        Err(refusal) => refuse(rt, refusal),
+    }
 }
 
 // Does what is asked for; false where something was turned away, which has been said.
@@ -74,14 +70,8 @@ fn run(rt: &HostRuntime) -> anyhow::Result<bool> {
             println!(rt; "{USAGE}")?;
             Ok(true)
         }
-        Some("check") => match next_drawing(&mut args) {
-            Some(drawing) => print_check(rt, drawing),
-            None => refuse(rt, USAGE),
-        },
-        Some("follow") => match next_drawing(&mut args) {
-            Some(drawing) => follow(rt, drawing, args),
-            None => refuse(rt, USAGE),
-        },
+        Some("check") => with_plant(rt, args, |plant, _| print_size(rt, plant)),
+        Some("follow") => with_plant(rt, args, |plant, signs| follow(rt, plant, signs)),
         Some("judge") => {
             if args.len() == 0 {
                 return refuse(rt, USAGE);

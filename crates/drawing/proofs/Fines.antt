@@ -6,8 +6,9 @@ use Rattle.std.specs.Str.{all_ascii_digits, bytes_eq}
 use Rattle.std.proofs.ByRecursion.{All-push, All-set, All-weaker, All-get_or}
 use Rattle.std.proofs.lemmas.Slice.Eq.{bytes_eq-Decides}
 use Rattle.std.proofs.lemmas.List.{get_or_append_left, get_or_push, length_push, length-set}
+use Rattle.std.proofs.lemmas.List.Folds.{position_or_len_push}
 use Rattle.std.proofs.lemmas.Str.Parse.{digits_value_short}
-use Rattle.std.proofs.lemmas.Bool.{cases_Bool, cases_lt, and_parts, leb-true}
+use Rattle.std.proofs.lemmas.Bool.{eq-eqb, ne_eqb, cases_Bool, cases_lt, and_parts, leb-true}
 use Rattle.std.proofs.lemmas.Bool.Decides.{nat_tests}
 use Rattle.grammar.specs.Line.{Said, nothing, arrow, fault, shows, is_name, is_text, numeral, read_on, from_state, two_words, three_words, of_words, before_comment, of_line}
 use Rattle.grammar.specs.Words.{words}
@@ -110,25 +111,23 @@ each_fine d f =
     }
 
 -- a name more
-place_kept : (xs ys : List (List ℕ)) (v : List ℕ) → place xs v < length xs → place (xs ++ ys) v ≡ place xs v
-place_kept [] ys v h = absurd (omega arith)
-place_kept (x ∷ xs) ys v h =
-    elim (cases_Bool (bytes_eq x v)) [ inl e ↦ rw e | inr e ↦ rw e (omega (arith, place_kept xs ys v (omega (arith, rw e at h)))) ]
+place_kept : (xs : List (List ℕ)) (w v : List ℕ) → place xs v < length xs → place (xs ++ (w ∷ [])) v ≡ place xs v
+place_kept xs w v h =
+    position_or_len_push (λ x. bytes_eq x v) xs w
+    ∙ ap (λ b. cond b (length xs + cond (bytes_eq w v) 0 1) (place xs v)) (ne_eqb (place xs v) (length xs) (λ e. absurd (omega arith)))
 
 pub place_last : (xs : List (List ℕ)) (w : List ℕ) → place xs w ≡ length xs → place (xs ++ (w ∷ [])) w ≡ length xs
-place_last [] w h = let e = (bytes_eq-Decides w w).1 refl in rw e
-place_last (x ∷ xs) w h =
-    elim (cases_Bool (bytes_eq x w)) [
-      | inl e ↦ absurd (omega (arith, rw e at h))
-      | inr e ↦ rw e (omega (arith, place_last xs w (omega (arith, rw e at h))))
-    ]
+place_last xs w h =
+    let all = eq-eqb (place xs w) (length xs) h in
+    let here = (bytes_eq-Decides w w).1 refl in
+    omega (arith, position_or_len_push (λ x. bytes_eq x w) xs w ∙ (λ j. cond (all j) (length xs + cond (here j) 0 1) (place xs w)))
 
 more_apart : (xs : List (List ℕ)) (w : List ℕ) → ((i : ℕ) → i < length xs → place xs (get_or xs i []) ≡ i) → place xs w ≡ length xs → (i : ℕ) → i < length (xs ++ (w ∷ [])) → place (xs ++ (w ∷ [])) (get_or (xs ++ (w ∷ [])) i []) ≡ i
 more_apart xs w apart new i lt =
     elim (cases_lt i (length xs)) [
       | inl less ↦
           let at = apart i less in
-          ap (place (xs ++ (w ∷ []))) (get_or_append_left xs (w ∷ []) [] i less) ∙ place_kept xs (w ∷ []) (get_or xs i []) (omega arith) ∙ at
+          ap (place (xs ++ (w ∷ []))) (get_or_append_left xs (w ∷ []) [] i less) ∙ place_kept xs w (get_or xs i []) (omega arith) ∙ at
       | inr more ↦
           let is : length xs ≡ i = omega (arith, length_push xs w) in
           ap (place (xs ++ (w ∷ []))) (get_or_push xs w [] i is) ∙ place_last xs w new ∙ is

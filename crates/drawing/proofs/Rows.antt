@@ -1,28 +1,46 @@
--- Numbers in a row, one element more. Assumes nothing.
-use Rattle.std.proofs.Common.{◌≡◌, ℕ, ◌+◌, ◌^◌, ◌<◌, ◌≤◌, max, List, [], ◌∷◌, ◌++◌, map, length, get_or, take, sym, refl, ap, ◌∙◌, append_assoc, arith}
-use Rattle.std.specs.List.{flat_map, AllByRecursion}
-use Rattle.std.proofs.lemmas.List.{take_more, take_all, flat_map_more}
+-- Numbers in a row. Assumes nothing.
+use Rattle.std.proofs.Common.{◌≡◌, ℕ, ◌^◌, ◌<◌, max, false, None, Option, List, [], ◌∷◌, map, refl, ap, ◌∙◌, subst, arith}
+use Rattle.std.specs.Fn.{Called}
+use Rattle.std.specs.Iterator.Adapters.{map_source, map_callee, map_steps, flatten_source, flatten_front, flatten_back, flatten_done, flatten_steps}
+use Rattle.std.specs.Array.Iter.{array_into_iter_items, array_steps}
+use Rattle.std.specs.List.{flat_map, fold, reduce, AllByRecursion}
+use Rattle.std.specs.Option.{unwrap_or}
+use Rattle.std.proofs.lemmas.Iterator.{YieldsList}
+use Rattle.std.proofs.lemmas.Iterator.Adapters.{YieldsList-from_flat_map}
+use denote.Param.Members.{Mut}
+use Rattle.std.proofs.lemmas.Iterator.Consumers.{YieldsList-from_shown}
 use Rattle.drawing.specs.declared.shape.Arrow.{Arrow}
 use Rattle.drawing.specs.Fine.{GoesBy, GoBy, no_arrow}
 use Rattle.drawing.specs.Numbers.{greatest_from, greatest}
 use Rattle.drawing.proofs.Fines.{all_from}
 
-pub push_two : (o o₁ o₂ : List ℕ) (x y : ℕ) → o₁ ≡ o ++ (x ∷ []) → o₂ ≡ o₁ ++ (y ∷ []) → o₂ ≡ o ++ (x ∷ y ∷ [])
-push_two o o₁ o₂ x y a b = b ∙ ap (λ l. l ++ (y ∷ [])) a ∙ append_assoc o (x ∷ []) (y ∷ [])
+-- an array gives its elements
+pub YieldsList-from_array : {A : Type 0} {n : ℕ} → (j : _) (xs : List A) → array_into_iter_items {X = A} {n = n} j ≡ xs → YieldsList (array_steps {A = A} {n = n}) (λ x. x) j xs
+YieldsList-from_array {A} {n} j xs e =
+    subst (YieldsList (array_steps {A = A} {n = n}) (λ x. x) j) e (YieldsList-from_shown (array_steps {A = A} {n = n}) (λ x. x) array_into_iter_items (λ s t h. h.0) (λ s x t h. h) j)
 
-pub push_three : (o o₁ o₂ o₃ : List ℕ) (x y z : ℕ) → o₁ ≡ o ++ (x ∷ []) → o₂ ≡ o₁ ++ (y ∷ []) → o₃ ≡ o₂ ++ (z ∷ []) → o₃ ≡ o ++ (x ∷ y ∷ z ∷ [])
-push_three o o₁ o₂ o₃ x y z a b c = c ∙ ap (λ l. l ++ (z ∷ [])) (push_two o o₁ o₂ x y a b) ∙ append_assoc o (x ∷ y ∷ []) (z ∷ [])
+-- a closure that gives a list for each element, which is then taken apart
+pub YieldsList-from_rows : {S A B F J C : Type 0} {steps : S → Option A → S → Type 0} {v : A → B} {ys : List B} → {s : _} (g : Mut F (A × Unit {0}) (List C)) (becomes : List C → J → Type 0) (inner : J → Option C → J → Type 0) (h : B → List C) (f : F) → ((u : List C) (j : J) → becomes u j → YieldsList inner (λ x. x) j u) → YieldsList steps v (map_source (flatten_source s)) ys → map_callee (flatten_source s) ≡ f → flatten_front s ≡ None → flatten_back s ≡ None → flatten_done s ≡ false → ((x : A) (u : List C) (q : F) → Called g f (x, tt) u q → (q ≡ f) × (u ≡ h (v x))) → YieldsList (flatten_steps (map_steps steps g) becomes inner) (λ x. x) s (flat_map h ys)
+YieldsList-from_rows {v} g becomes inner h f apart source closure front back done each =
+    YieldsList-from_flat_map g becomes inner (λ x. x) h f
+    (λ x u q k. let p = each x u q k in (p.0, λ j b. subst (YieldsList inner (λ x. x) j) p.1 (apart u j b)))
+    source closure front back done
 
-module _ {X : Type 0} (f : X → List ℕ) (xs : List X) (i : ℕ) (o : List ℕ) (so_far : o ≡ flat_map f (take i xs)) where
-  pub row_more : (d : X) (o₁ : List ℕ) → i < length xs → o₁ ≡ o ++ f (get_or xs i d) → o₁ ≡ flat_map f (take (i + 1) xs)
-  row_more d o₁ lt e = e ∙ ap (λ l. l ++ f (get_or xs i d)) so_far ∙ flat_map_more f [] (take i xs) (get_or xs i d) ∙ ap (flat_map f) (sym (take_more xs i d lt))
+-- the greatest of the greater states of arrows
+abbrev pub later : Arrow → ℕ
+later a = max a.«from» a.to
 
-  pub row_all : length xs ≤ i → o ≡ flat_map f xs
-  row_all le = so_far ∙ ap (flat_map f) (take_all i xs le)
+greatest_folds : (n : ℕ) (ys : List Arrow) → fold max n (map later ys) ≡ greatest_from n ys
+greatest_folds n [] = refl
+greatest_folds n (a ∷ ys) =
+    let e : max n (later a) ≡ max (max n a.«from») a.to = omega arith in
+    ap (λ m. fold max m (map later ys)) e ∙ greatest_folds (max (max n a.«from») a.to) ys
 
-pub flat_map-map : {X Y : Type 0} (f : Y → List ℕ) (g : X → Y) (xs : List X) → flat_map (λ x. f (g x)) xs ≡ flat_map f (map g xs)
-flat_map-map f g [] = refl
-flat_map-map f g (x ∷ xs) = ap (λ l. f (g x) ++ l) (flat_map-map f g xs)
+pub greatest_is : (ys : List Arrow) → unwrap_or (reduce max (map later ys)) 0 ≡ greatest ys
+greatest_is [] = refl
+greatest_is (a ∷ ys) =
+    let e : later a ≡ max (max 0 a.«from») a.to = omega arith in
+    ap (λ m. fold max m (map later ys)) e ∙ greatest_folds (max (max 0 a.«from») a.to) ys
 
 -- no state that is named is long
 short_from : (k n : ℕ) (ys : List Arrow) → n < 10 ^ 18 → AllByRecursion (GoesBy k) ys → greatest_from n ys < 10 ^ 18

@@ -1,8 +1,9 @@
 -- A plant as the lines so far draw it, and what a statement adds. These are definitions and assume nothing.
-use Rattle.std.specs.Prelude.{◌≡◌, ℕ, ◌+◌, ◌<◌, min, Bool, true, false, cond, not, ◌&&◌, ◌||◌, List, [], ◌∷◌, ◌++◌, map, length, Some, None, vec_items, vec_len, string_bytes, Option, ◌==◌, nat_lt, slice_index_or, slice_set}
+use Rattle.std.specs.Prelude.{◌≡◌, ℕ, ◌<◌, min, Bool, true, false, cond, not, ◌&&◌, ◌||◌, List, [], ◌∷◌, ◌++◌, map, length, Some, None, vec_items, vec_len, string_bytes, Option, ◌==◌, nat_lt, slice_index_or, slice_set}
+use Rattle.std.specs.List.{position_or_len}
 use Rattle.std.specs.Str.{bytes_eq}
 use Rattle.drawing.specs.declared.shape.Arrow.{Arrow}
-use Rattle.drawing.specs.declared.shape.Draft.{Draft}
+use Rattle.drawing.specs.declared.draft.Draft.{Draft}
 use Rattle.drawing.specs.declared.shape.Event.{Event}
 use Rattle.grammar.specs.Line.{Said, nothing, arrow, fault, shows}
 
@@ -15,17 +16,12 @@ pub record Drafted : Type 0 where
 abbrev pub drafted : Draft → Drafted
 drafted d = record { labels = map string_bytes (vec_items d.names); kinds = vec_items d.events; ways = vec_items d.arrows }
 
--- each event has a name
-abbrev pub Level : Draft → Type 0
-Level d = vec_len d.names ≡ vec_len d.events
-
 abbrev pub blank_sheet : Drafted
 blank_sheet = record { labels = []; kinds = []; ways = [] }
 
 -- where w stands in ws, or how many there are if it doesn't
 abbrev pub place : List (List ℕ) → List ℕ → ℕ
-place [] w = 0
-place (x ∷ ws) w = cond (bytes_eq x w) 0 (1 + place ws w)
+place ws w = position_or_len (λ x. bytes_eq x w) ws
 
 -- So many events have a number each. All past them share the next, under the name of the first of them: a plant has at most 64 events, so that such a text is refused whatever they are.
 abbrev pub kept : ℕ
@@ -47,7 +43,6 @@ mentioned d w =
 pub record Mentioned (d : Draft) (w : List ℕ) (after : Draft) (i : ℕ) : Type 0 where
   pub number_is : i ≡ number (drafted d).labels w
   pub known : drafted after ≡ mentioned (drafted d) w
-  pub level : Level after
   pub within : i < vec_len after.events
 
 -- event i was said to show another sign; for those that share a number this is not looked at

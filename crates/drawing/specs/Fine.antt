@@ -1,5 +1,6 @@
 -- What holds of whatever a text draws. These are definitions and assume nothing.
-use Rattle.std.specs.Prelude.{◌≡◌, ℕ, ◌+◌, ◌^◌, ◌<◌, ◌≤◌, true, List, [], length, Some, None, Option, slice_index_or}
+use Rattle.std.specs.Prelude.{◌≡◌, ℕ, ◌+◌, ◌^◌, ◌<◌, ◌≤◌, true, List, [], length, Option, slice_index_or}
+use Rattle.std.specs.Option.{unwrap_or}
 use Rattle.drawing.specs.declared.shape.Arrow.{Arrow}
 use Rattle.drawing.specs.declared.shape.Event.{Event}
 use Rattle.drawing.specs.Drafted.{Drafted, place, kept, unsaid}
@@ -7,8 +8,7 @@ use Rattle.grammar.specs.Line.{is_name}
 
 -- an event that no line says to show something shows nothing
 abbrev pub sign_of : Option ℕ → ℕ
-sign_of None = 0
-sign_of (Some n) = n
+sign_of o = unwrap_or o 0
 
 abbrev pub no_arrow : Arrow
 no_arrow = record { «from» = 0; event = 0; to = 0 }

@@ -3,10 +3,8 @@ use Rattle.std.specs.Prelude.{◌≡◌, ℕ, ◌+◌, List, [], ◌∷◌, Some
 use Rattle.drawing.specs.declared.finished.Drawing.{Drawing}
 use Rattle.drawing.specs.declared.reads.ReadError.{ReadError}
 use Rattle.drawing.specs.declared.reads.ReadError.TheVariants.{Line, Memory}
-use Rattle.drawing.specs.declared.shape.Draft.{Draft}
-use Rattle.drawing.specs.Drafted.{Drafted, drafted, blank_sheet, put}
+use Rattle.drawing.specs.Drafted.{Drafted, blank_sheet, put}
 use Rattle.drawing.specs.Drawn.{Drawn, drawn, finished}
-use Rattle.drawing.specs.Fine.{Fine}
 use Rattle.drawing.specs.Lines.{lines}
 use Rattle.grammar.specs.Line.{Said, of_line}
 
@@ -43,8 +41,3 @@ abbrev pub Right : List ℕ → Result Drawing ReadError → Type 0
 Right bs (Ok d) = reading bs ≡ Ok (drawn d)
 Right bs (Err (Line n)) = reading bs ≡ Err n
 Right bs (Err Memory) = Unit {0}
-
-abbrev pub Drafts : List ℕ → Result Draft ReadError → Type 0
-Drafts bs (Ok d) = (drafting bs ≡ Ok (drafted d)) × Fine (drafted d)
-Drafts bs (Err (Line n)) = drafting bs ≡ Err n
-Drafts bs (Err Memory) = Unit {0}

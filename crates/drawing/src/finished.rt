@@ -3,7 +3,7 @@ ghost use Rattle.std.specs.Prelude.{◌≡◌, ◌+◌, ◌≤◌, length};
 ghost use Rattle.drawing.specs.Drafted.{drafted, kept};
 ghost use Rattle.drawing.specs.Fine.{Spelled, Apart, ShortSigns, GoBy};
 
-use crate::shape::Draft;
+use crate::draft::Draft;
 
 // It can be had only by reading, so that it can be written as a text again.
 #[derive(Drop)]
@@ -12,7 +12,6 @@ pub struct Drawing {
     ghost spelled: { Spelled (drafted draft).labels },
     ghost apart: { Apart (drafted draft).labels },
     ghost few: { length (drafted draft).labels ≤ kept + 1 },
-    ghost level: { length (drafted draft).labels ≡ length (drafted draft).kinds },
     ghost signs: { ShortSigns (drafted draft).kinds },
     ghost ways: { GoBy (length (drafted draft).labels) (drafted draft).ways },
 }

@@ -1,11 +1,9 @@
 // A plant as a text draws it, and the numbers that it is checked by.
 #![tactic(auto)]
 
+mod draft;
 mod finished;
-mod lines;
-mod names;
 mod numbers;
-mod puts;
 mod reads;
 mod shape;
 

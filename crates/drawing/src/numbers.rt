@@ -1,6 +1,5 @@
 // A drawing as the numbers that a plant is checked by.
-ghost use Rattle.std.specs.Prelude.{◌≡◌, ◌+◌, ◌^◌, ◌<◌, ◌++◌, map, IfOk, string_bytes, OnOk};
-ghost use Rattle.std.specs.List.{flat_map};
+ghost use Rattle.std.specs.Prelude.{◌≡◌, ◌^◌, ◌<◌, map, IfOk, string_bytes};
 ghost use Rattle.drawing.specs.Drawn.{drawn, kind};
 ghost use Rattle.drawing.specs.Numbers.{greatest, states_of, capped, three, two, arrow_numbers, event_numbers};
 
@@ -11,54 +10,27 @@ use std::alloc::{AllocError, Global};
 fn capped(n: u64) -> u16
     ensures { result ≡ capped n }
 {
-    if n > 65535 { 65535 } else { n as u16 }
+    u16::try_from(n).unwrap_or(u16::MAX)
 }
 
-fn push_arrow(numbers: &mut Vec<u16>, a: Arrow) -> Result<(), AllocError>
-    ensures { OnOk result (numbers.new.items ≡ numbers.old.items ++ three a) }
-{
-    numbers.push(capped(a.from))?;
-    numbers.push(capped(a.event as u64))?;
-    numbers.push(capped(a.to))?;
-    Ok(())
-}
-
-fn push_event(numbers: &mut Vec<u16>, e: Event) -> Result<(), AllocError>
-    ensures { OnOk result (numbers.new.items ≡ numbers.old.items ++ two (kind e)) }
-{
-    numbers.push(capped(e.shown()))?;
-    numbers.push(u16::from(e.fault))?;
-    Ok(())
-}
-
-fn all_arrows(heap: Global, arrows: &[Arrow]) -> Result<Vec<u16>, AllocError>
-    ensures { IfOk result (λ v. v.items ≡ flat_map three arrows.now) }
-{
-    let mut numbers = Vec::new(heap);
-    for a in arrows {
-        push_arrow(&mut numbers, *a)?;
+impl Arrow {
+    fn numbers(self) -> [u16; 3]
+        ensures { result ≡ three self }
+    {
+        [
+            capped(self.from),
+            capped(self.event as u64),
+            capped(self.to),
+        ]
     }
-    Ok(numbers)
 }
 
-fn all_events(heap: Global, events: &[Event]) -> Result<Vec<u16>, AllocError>
-    ensures { IfOk result (λ v. v.items ≡ flat_map two (map kind events.now)) }
-{
-    let mut numbers = Vec::new(heap);
-    for e in events {
-        push_event(&mut numbers, *e)?;
+impl Event {
+    fn numbers(self) -> [u16; 2]
+        ensures { result ≡ two (kind self) }
+    {
+        [capped(self.shown()), u16::from(self.fault)]
     }
-    Ok(numbers)
-}
-
-fn greatest(arrows: &[Arrow]) -> u64
-    ensures { result ≡ greatest arrows.now }
-{
-    let mut most: u64 = 0;
-    for a in arrows {
-        most = most.max(a.from).max(a.to);
-    }
-    most
 }
 
 impl Drawing {
@@ -86,7 +58,11 @@ impl Drawing {
         ensures is { result ≡ greatest (drawn self.now).ways }
         ensures short { result < 10 ^ 18 }
     {
-        greatest(self.arrows())
+        self.arrows()
+            .iter()
+            .map(|a| a.from.max(a.to))
+            .max()
+            .unwrap_or(0)
     }
 
     // How many states the plant has.
@@ -100,13 +76,21 @@ impl Drawing {
     pub fn arrow_numbers(&self, heap: Global) -> Result<Vec<u16>, AllocError>
         ensures { IfOk result (λ v. v.items ≡ arrow_numbers (drawn self.now)) }
     {
-        all_arrows(heap, self.arrows())
+        self.arrows()
+            .iter()
+            .copied()
+            .flat_map(Arrow::numbers)
+            .collect(heap)
     }
 
     // Two numbers for each event: its sign, and 1 if it is a fault.
     pub fn event_numbers(&self, heap: Global) -> Result<Vec<u16>, AllocError>
         ensures { IfOk result (λ v. v.items ≡ event_numbers (drawn self.now)) }
     {
-        all_events(heap, self.events())
+        self.events()
+            .iter()
+            .copied()
+            .flat_map(Event::numbers)
+            .collect(heap)
     }
 }

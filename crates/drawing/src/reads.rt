@@ -1,16 +1,10 @@
 // A text, read line by line.
-ghost use Rattle.std.specs.Prelude.{◌≡◌, OnOk};
+ghost use Rattle.std.specs.Prelude.{◌≡◌};
 ghost use Rattle.drawing.specs.declared.reads.ReadError.TheVariants.{Memory};
-ghost use Rattle.drawing.specs.Added.{Outcome};
-ghost use Rattle.drawing.specs.Drafted.{drafted, Level};
-ghost use Rattle.drawing.specs.Drawn.{drawn, finished};
-ghost use Rattle.drawing.specs.Fine.{Fine};
-ghost use Rattle.drawing.specs.Reads.{added, Drafts, Right};
+ghost use Rattle.drawing.specs.Reads.{Right};
 
+use crate::draft::Draft;
 use crate::finished::Drawing;
-use crate::lines::split_line;
-use crate::shape::Draft;
-use grammar::read_line;
 use std::alloc::{AllocError, Global};
 
 // Why a text is not read: the number of the first line that can't be, counted from 0; or memory was wanting.
@@ -28,45 +22,13 @@ impl From<AllocError> for ReadError {
     }
 }
 
-// Adds what a line says, the line of that number.
-fn add_line(draft: &mut Draft, heap: Global, line: &[u8], number: u64) -> Result<(), ReadError>
-    requires { Level draft.old }
-    ensures level { OnOk result (Level draft.new) }
-    ensures added { Outcome (added (drafted draft.old) line.now) number (drafted draft.new) result }
-{
-    match read_line(line) {
-        Some(statement) => draft.add(heap, statement, number),
-        None => Err(ReadError::Line(number)),
-    }
-}
-
-// All lines, one after the other.
-fn draft_of(heap: Global, text: &[u8]) -> Result<Draft, ReadError>
-    ensures { Drafts text.now result }
-{
-    let mut draft = Draft::new(heap);
-    let mut rest = text;
-    let mut number = 0;
-    while let Some((line, more)) = split_line(rest) {
-        add_line(&mut draft, heap, line, number)?;
-        rest = more;
-        number += 1;
-    }
-    add_line(&mut draft, heap, rest, number)?;
-    Ok(draft)
-}
-
-fn finish(draft: Draft) -> Drawing
-    requires { Fine (drafted draft) }
-    ensures { drawn result ≡ finished (drafted draft) }
-{
-    Drawing { draft }
-}
-
 // What a text draws, or the first line that can't be read.
 pub fn read(heap: Global, text: &[u8]) -> Result<Drawing, ReadError>
     ensures { Right text.now result }
 {
-    let draft = draft_of(heap, text)?;
-    Ok(finish(draft))
+    let mut draft = Draft::new(heap);
+    for (number, line) in text.split(|b| *b == b'\n').enumerate() {
+        draft.add(line, number as u64)?;
+    }
+    Ok(Drawing { draft })
 }

@@ -1,6 +1,6 @@
 // Random calls of the entries, sound at first and then damaged.
-use crate::plants::Plant;
 use crate::rooms::least_room;
+use bare::Plant;
 use random::Random;
 use std::alloc::{AllocError, Global};
 
@@ -39,23 +39,28 @@ fn random_events(heap: Global, random: &mut Random) -> Result<Vec<u16>, AllocErr
     Ok(events)
 }
 
-// Puts a random arrow behind the others; more lead from low states, which are reached sooner. In a plant that climbs, an arrow that shows nothing leads to a higher state or else is left out, so that no way round is silent and fewer long runs show little.
-fn add_arrow(
-    random: &mut Random,
+// What the arrows of a plant are drawn from.
+#[derive(Clone, Copy)]
+struct Choices<'a> {
     states: u16,
-    events: &[u16],
+    events: &'a [u16],
+    // An arrow that shows nothing leads to a higher state or else is left out, so that no way round is silent and fewer long runs show little.
     climbs: bool,
-    arrows: &mut Vec<u16>,
-) -> Result<(), AllocError> {
-    let event = random.place(events.len() / 2);
-    let low = random.between(1, states);
-    let from = random.below(low);
-    let to = random.below(states);
-    let silent = events.get(event.saturating_mul(2)).copied() == Some(0);
-    if climbs && silent && from >= to {
-        return Ok(());
+}
+
+impl Choices<'_> {
+    // More arrows lead from low states, which are reached sooner.
+    fn random_arrow(self, random: &mut Random) -> Option<[u16; 3]> {
+        let event = random.place(self.events.len() / 2);
+        let low = random.between(1, self.states);
+        let from = random.below(low);
+        let to = random.below(self.states);
+        let is_silent = self.events.get(event.saturating_mul(2)) == Some(&0);
+        if self.climbs && is_silent && from >= to {
+            return None;
+        }
+        Some([from, u16::try_from(event).ok()?, to])
     }
-    arrows.extend_from_slice(&[from, u16::try_from(event).unwrap_or(0), to])
 }
 
 fn random_arrows(
@@ -65,9 +70,15 @@ fn random_arrows(
     events: &[u16],
 ) -> Result<Vec<u16>, AllocError> {
     let mut arrows = Vec::new(heap);
-    let climbs = !random.one_in(4);
+    let choices = Choices {
+        states,
+        events,
+        climbs: !random.one_in(4),
+    };
     for _ in 0..random.between(3, MOST_ARROWS) {
-        add_arrow(random, states, events, climbs, &mut arrows)?;
+        if let Some(arrow) = choices.random_arrow(random) {
+            arrows.extend_from_slice(&arrow)?;
+        }
     }
     Ok(arrows)
 }
@@ -80,6 +91,7 @@ fn random_memory(heap: Global, random: &mut Random, states: u16) -> Result<Vec<u
     Ok(memory)
 }
 
+// No closures: one is picked at random, by value, and each would borrow the call.
 #[derive(Clone, Copy)]
 enum Damage {
     Arrow,
@@ -94,35 +106,32 @@ enum Damage {
     Sign,
 }
 
-fn random_damage(random: &mut Random) -> Damage {
-    match random.below(10) {
-        0 => Damage::Arrow,
-        1 => Damage::Event,
-        2 => Damage::Mark,
-        3 => Damage::CutArrows,
-        4 => Damage::CutEvents,
-        5 => Damage::CutMemory,
-        6 => Damage::CutRoom,
-        7 => Damage::NoStates,
-        8 => Damage::ManyStates,
-        _ => Damage::Sign,
-    }
-}
+const DAMAGES: [Damage; 10] = [
+    Damage::Arrow,
+    Damage::Event,
+    Damage::Mark,
+    Damage::CutArrows,
+    Damage::CutEvents,
+    Damage::CutMemory,
+    Damage::CutRoom,
+    Damage::NoStates,
+    Damage::ManyStates,
+    Damage::Sign,
+];
 
 // Too large for some places, and not for others.
-const LARGE: &[u16] = &[2, 4, 33, 255, 256, 1_000, 65_535];
+const LARGE: [u16; 7] = [2, 4, 33, 255, 256, 1_000, 65_535];
 
 fn spoil_number(random: &mut Random, numbers: &mut [u16]) {
-    let place = random.place(numbers.len());
-    let large = random.pick(LARGE);
-    if let Some(number) = numbers.get_mut(place) {
+    let number = random.pick_mut(numbers);
+    let large = random.pick(&LARGE);
+    if let (Some(number), Some(large)) = (number, large) {
         *number = large;
     }
 }
 
 fn spoil_mark(random: &mut Random, memory: &mut [u8]) {
-    let place = random.place(memory.len());
-    if let Some(mark) = memory.get_mut(place) {
+    if let Some(mark) = random.pick_mut(memory) {
         *mark = 2;
     }
 }
@@ -152,7 +161,13 @@ impl Call {
 
     // Damages one thing. Where nothing is left to damage it stays as it is.
     pub fn spoil(&mut self, random: &mut Random) {
-        match random_damage(random) {
+        if let Some(damage) = random.pick(&DAMAGES) {
+            self.suffer(damage, random);
+        }
+    }
+
+    fn suffer(&mut self, damage: Damage, random: &mut Random) {
+        match damage {
             Damage::Arrow => spoil_number(random, self.arrows.as_mut_slice()),
             Damage::Event => spoil_number(random, self.events.as_mut_slice()),
             Damage::Mark => spoil_mark(random, self.memory.as_mut_slice()),

@@ -1,10 +1,11 @@
 // Plants whose answers are known.
-use crate::failure::{Failure, mismatch};
-use crate::plants::Plant;
-use crate::refusals::{compare_follow, compare_judge};
-use crate::rooms::{fill, first_part, least_room, unchanged};
-use diagnosability::Verdict;
+use crate::refusals::{Rule, compare_follow, compare_judge};
+use crate::rooms::{first_part, least_room};
+use anyhow::ensure;
+use bare::{Plant, fill, is_unchanged};
+use diagnosability::{Lengths, Verdict, judge};
 use std::alloc::{AllocError, Global};
+use std::fmt;
 
 #[derive(Clone, Copy)]
 struct Case {
@@ -33,7 +34,12 @@ const CASES: &[Case] = &[
         name: "untold",
         states: 2,
         arrows: &[0, 0, 1, 1, 1, 1, 0, 1, 0],
-        verdict: Verdict::Hidden(1, 0, 1, 1),
+        verdict: Verdict::Hidden(Lengths {
+            bad: 1,
+            good: 0,
+            bad_round: 1,
+            good_round: 1,
+        }),
         rows: &[0, 1, 1],
     },
     // As the first, with 1 shown twice more.
@@ -70,38 +76,28 @@ const CASES: &[Case] = &[
     },
 ];
 
-fn same(one: Verdict, other: Verdict) -> bool {
-    match (one, other) {
-        (Verdict::Out(k), Verdict::Out(l)) => k == l,
-        (Verdict::Hidden(a, b, c, d), Verdict::Hidden(e, f, g, h)) => a == e
-            && b == f
-            && c == g
-            && d == h,
-        _ => false,
-    }
-}
-
 // Whether the verdict is the one expected, and the room has just the rows more.
 fn compare_case(
     plant: Plant,
     expected: Verdict,
     rows: &[u16],
     room: &mut [u16],
-) -> Result<(), Failure> {
+) -> anyhow::Result<()> {
     fill(room);
-    let verdict = plant.judge(room);
-    if same(verdict, expected) && room.starts_with(rows) && unchanged(room, rows.len()) {
-        return Ok(());
-    }
-    Err(mismatch(
-        "another verdict or room with states",
-        u64::from(plant.states),
-        "that of the table",
-        0,
-    ))
+    let verdict = judge(plant.into(), room);
+    let states = plant.states;
+    ensure!(
+        verdict == Ok(expected),
+        "another verdict than that of the table with states {states}"
+    );
+    ensure!(
+        room.starts_with(rows) && is_unchanged(room, rows.len()),
+        "another room than that of the table with states {states}"
+    );
+    Ok(())
 }
 
-fn compare_table(rt: &HostRuntime, room: &mut [u16]) -> Result<(), Failure> {
+fn compare_table(rt: &HostRuntime, room: &mut [u16]) -> anyhow::Result<()> {
     for case in CASES {
         let plant = Plant {
             states: case.states,
@@ -140,7 +136,7 @@ fn odometer(heap: Global, states: u16) -> Result<Vec<u16>, AllocError> {
     Ok(arrows)
 }
 
-fn compare_odometer(rt: &HostRuntime, states: u16, room: &mut [u16]) -> Result<(), Failure> {
+fn compare_odometer(rt: &HostRuntime, states: u16, room: &mut [u16]) -> anyhow::Result<()> {
     println!(rt; "odometer of {states} states")?;
     let arrows = odometer(rt.alloc(), states)?;
     let plant = Plant {
@@ -157,49 +153,84 @@ fn compare_odometer(rt: &HostRuntime, states: u16, room: &mut [u16]) -> Result<(
     )
 }
 
-// States, events, arrows, and the rule that turns a plant of that size away, 0 being none: at the limits, just past them, and past two at once.
-const SIZES: &[(u16, usize, usize, u64)] = &[
-    (1, 0, 0, 0),
-    (1, 0, 1, 3),
-    (32, 64, 1_024, 0),
-    (32, 64, 1_025, 3),
-    (32, 65, 1_024, 2),
-    (32, 65, 1_025, 2),
-    (33, 64, 1_024, 1),
-    (33, 65, 1_025, 1),
-    (0, 65, 1_025, 1),
-];
-
-// Both entries on a plant of that size: every arrow is event 0 from state 0 to itself.
-fn compare_size(
-    heap: Global,
-    size: (u16, usize, usize, u64),
-    zeros: &[u16],
-    room: &mut [u16],
-) -> Result<(), Failure> {
-    let (states, events, arrows, refusal) = size;
-    let plant = Plant {
-        states,
-        arrows: zeros.get(0..arrows.saturating_mul(3)).unwrap_or(zeros),
-        events: zeros.get(0..events.saturating_mul(2)).unwrap_or(zeros),
-    };
-    let memory = vec![in heap; 0; 2 * usize::from(states)]?;
-    compare_judge(plant, first_part(room, least_room(states)), refusal)?;
-    compare_follow(heap, plant, memory.as_slice(), 0, refusal)
+// How large a plant is, and the rule that turns it away, if one does.
+#[derive(Clone, Copy)]
+struct Size {
+    states: u16,
+    events: usize,
+    arrows: usize,
+    refusal: Option<Rule>,
 }
 
-fn compare_sizes(rt: &HostRuntime, room: &mut [u16]) -> Result<(), Failure> {
+impl Size {
+    fn new(states: u16, events: usize, arrows: usize, refusal: Option<Rule>) -> Size {
+        Size {
+            states,
+            events,
+            arrows,
+            refusal,
+        }
+    }
+}
+
+// At the limits, just past them, and past two at once.
+fn sizes() -> [Size; 9] {
+    [
+        Size::new(1, 0, 0, None),
+        Size::new(1, 0, 1, Some(Rule::Arrows)),
+        Size::new(32, 64, 1_024, None),
+        Size::new(32, 64, 1_025, Some(Rule::Arrows)),
+        Size::new(32, 65, 1_024, Some(Rule::Events)),
+        Size::new(32, 65, 1_025, Some(Rule::Events)),
+        Size::new(33, 64, 1_024, Some(Rule::States)),
+        Size::new(33, 65, 1_025, Some(Rule::States)),
+        Size::new(0, 65, 1_025, Some(Rule::States)),
+    ]
+}
+
+impl fmt::Display for Size {
+    fn fmt<W: fmt::Write>(&self, f: &mut fmt::Formatter<W>) -> fmt::Result {
+        let Size {
+            states,
+            events,
+            arrows,
+            refusal,
+        } = *self;
+        let refusal = refusal.map_or(0, |rule| rule as u64);
+        write!(
+            f,
+            "{states} states, {events} events, {arrows} arrows: refusal {refusal}"
+        )
+    }
+}
+
+// Both entries on a plant of that size: every arrow is event 0 from state 0 to itself.
+fn compare_size(heap: Global, size: Size, zeros: &[u16], room: &mut [u16]) -> anyhow::Result<()> {
+    let plant = Plant {
+        states: size.states,
+        arrows: zeros.get(..size.arrows.saturating_mul(3)).unwrap_or(zeros),
+        events: zeros.get(..size.events.saturating_mul(2)).unwrap_or(zeros),
+    };
+    let memory = vec![in heap; 0; 2 * usize::from(size.states)]?;
+    compare_judge(
+        plant,
+        first_part(room, least_room(size.states)),
+        size.refusal,
+    )?;
+    compare_follow(heap, plant, memory.as_slice(), 0, size.refusal)
+}
+
+fn compare_sizes(rt: &HostRuntime, room: &mut [u16]) -> anyhow::Result<()> {
     let zeros = [0u16; 3_075];
-    for size in SIZES {
-        let (states, events, arrows, refusal) = size;
-        println!(rt; "{states} states, {events} events, {arrows} arrows: refusal {refusal}")?;
-        compare_size(rt.alloc(), *size, &zeros, room)?;
+    for size in sizes() {
+        println!(rt; "{size}")?;
+        compare_size(rt.alloc(), size, &zeros, room)?;
     }
     Ok(())
 }
 
 // Prints each case before it is compared, so that the last one printed is the one that fails.
-pub fn compare_cases(rt: &HostRuntime, room: &mut [u16]) -> Result<(), Failure> {
+pub fn compare_cases(rt: &HostRuntime, room: &mut [u16]) -> anyhow::Result<()> {
     compare_table(rt, room)?;
     for states in [2, 3, 4, 32] {
         compare_odometer(rt, states, room)?;

@@ -1,119 +1,154 @@
 // How often each answer came.
-use std::io;
+use crate::refusals::Rule;
+use observer::Word;
+use std::fmt;
 
-// Where the counts of a kind begin. Words and numbers of events have two each: for answers that the runs determine, and for those that they only bound.
-const WORDS: usize = 0;
+// How often an answer came that the runs determine, and how often one that they only bound.
+#[derive(Clone, Copy)]
+struct Count {
+    settled: u64,
+    one_sided: u64,
+}
 
-const ALL_WORDS: usize = 8;
+impl Count {
+    const NONE: Count = Count {
+        settled: 0,
+        one_sided: 0,
+    };
 
-const OUTS: usize = 10;
+    fn add(&mut self, settled: bool) {
+        let count = if settled {
+            &mut self.settled
+        } else {
+            &mut self.one_sided
+        };
+        *count = count.saturating_add(1);
+    }
 
-const HIDDEN: usize = 28;
-
-const TURNED: usize = 29;
-
-const REFUSED: usize = 34;
-
-const END: usize = 40;
+    fn plus(self, other: Count) -> Count {
+        Count {
+            settled: self.settled.saturating_add(other.settled),
+            one_sided: self.one_sided.saturating_add(other.one_sided),
+        }
+    }
+}
 
 // Numbers of events from this one on are counted together.
-const MANY: u64 = 8;
+const MANY: usize = 8;
 
-// What is counted, in the order in which it is printed.
-const NAMES: [&str; END] = [
-    "bad, settled",
-    "bad, one-sided",
-    "good, settled",
-    "good, one-sided",
-    "either, settled",
-    "either, one-sided",
-    "neither, settled",
-    "neither, one-sided",
-    "all words, settled",
-    "all words, one-sided",
-    "out in 0, settled",
-    "out in 0, one-sided",
-    "out in 1, settled",
-    "out in 1, one-sided",
-    "out in 2, settled",
-    "out in 2, one-sided",
-    "out in 3, settled",
-    "out in 3, one-sided",
-    "out in 4, settled",
-    "out in 4, one-sided",
-    "out in 5, settled",
-    "out in 5, one-sided",
-    "out in 6, settled",
-    "out in 6, one-sided",
-    "out in 7, settled",
-    "out in 7, one-sided",
-    "out in 8 or more, settled",
-    "out in 8 or more, one-sided",
-    "hidden, walked and gone round twice",
-    "damaged, judge takes it",
-    "damaged, judge turns it away by 1",
-    "damaged, judge turns it away by 2",
-    "damaged, judge turns it away by 3",
-    "damaged, judge turns it away by 4",
-    "damaged, follow takes it",
-    "damaged, follow refuses by 1",
-    "damaged, follow refuses by 2",
-    "damaged, follow refuses by 3",
-    "damaged, follow refuses by 4",
-    "damaged, follow refuses by 5",
-];
-
-#[derive(Drop)]
+#[derive(Clone, Copy)]
 pub struct Tally {
-    counts: [u64; END],
+    bad: Count,
+    good: Count,
+    either: Count,
+    neither: Count,
+    outs: [Count; MANY],
+    outs_beyond: Count,
+    hidden: u64,
+    // By the number of the rule; none has 0.
+    turned: bare::Tally<5>,
+    refused: bare::Tally<6>,
 }
 
 impl Tally {
     pub fn new() -> Tally {
-        Tally { counts: [0; END] }
-    }
-
-    // One more of what is so far behind the beginning of its kind.
-    fn add(&mut self, kind: usize, place: u64) {
-        let place = kind.saturating_add(usize::try_from(place).unwrap_or(END));
-        if let Some(count) = self.counts.get_mut(place) {
-            *count = count.saturating_add(1);
+        Tally {
+            bad: Count::NONE,
+            good: Count::NONE,
+            either: Count::NONE,
+            neither: Count::NONE,
+            outs: [Count::NONE; MANY],
+            outs_beyond: Count::NONE,
+            hidden: 0,
+            turned: bare::Tally::new(),
+            refused: bare::Tally::new(),
         }
     }
 
-    // The word by its place: bad, good, either, neither.
-    pub fn add_word(&mut self, word: u64, settled: bool) {
-        let side = u64::from(!settled);
-        self.add(WORDS, word.saturating_mul(2).saturating_add(side));
-        self.add(ALL_WORDS, side);
+    pub fn add_word(&mut self, word: Word, settled: bool) {
+        match word {
+            Word::Bad => self.bad.add(settled),
+            Word::Good => self.good.add(settled),
+            Word::Either => self.either.add(settled),
+            Word::Neither => self.neither.add(settled),
+        }
     }
 
     pub fn add_out(&mut self, number: u64, settled: bool) {
-        let side = u64::from(!settled);
-        self.add(
-            OUTS,
-            number.min(MANY).saturating_mul(2).saturating_add(side),
-        );
+        let place = usize::try_from(number).unwrap_or(MANY);
+        match self.outs.get_mut(place) {
+            Some(count) => count.add(settled),
+            None => self.outs_beyond.add(settled),
+        }
     }
 
     pub fn add_hidden(&mut self) {
-        self.add(HIDDEN, 0);
+        self.hidden = self.hidden.saturating_add(1);
     }
 
-    pub fn add_refusals(&mut self, turned: u64, refused: u64) {
-        self.add(TURNED, turned);
-        self.add(REFUSED, refused);
+    pub fn add_refusals(&mut self, turned: Option<Rule>, refused: Option<Rule>) {
+        self.turned.add(turned.map(|rule| rule as u32));
+        self.refused.add(refused.map(|rule| rule as u32));
+    }
+
+    fn words(&self) -> Count {
+        self.bad
+            .plus(self.good)
+            .plus(self.either)
+            .plus(self.neither)
     }
 
     // Whether at least half of the words were settled.
-    pub fn mostly_settled(&self) -> bool {
-        self.counts[ALL_WORDS] >= self.counts[ALL_WORDS + 1]
+    pub fn is_mostly_settled(&self) -> bool {
+        let words = self.words();
+        words.settled >= words.one_sided
     }
+}
 
-    pub fn print(&self, rt: &HostRuntime) -> io::Result<()> {
-        for (name, count) in NAMES.iter().zip(self.counts.iter()) {
-            println!(rt; "{name}: {count}")?;
-        }
-        Ok(())
+// Two lines that begin with what is counted.
+fn write_count<N: fmt::Display + Drop, W: fmt::Write>(
+    f: &mut fmt::Formatter<W>,
+    name: N,
+    count: Count,
+) -> fmt::Result {
+    let Count { settled, one_sided } = count;
+    writeln!(f, "{name}, settled: {settled}")?;
+    writeln!(f, "{name}, one-sided: {one_sided}")
+}
+
+fn write_outs<W: fmt::Write>(f: &mut fmt::Formatter<W>, outs: &[Count]) -> fmt::Result {
+    for (number, count) in outs.iter().enumerate() {
+        write_count(f, format_args!("out in {number}"), *count)?;
+    }
+    Ok(())
+}
+
+fn write_refusals<const N: usize, W: fmt::Write>(
+    f: &mut fmt::Formatter<W>,
+    taken: &str,
+    refused: &str,
+    tally: &bare::Tally<N>,
+) -> fmt::Result {
+    let none = tally.none;
+    writeln!(f, "damaged, {taken}: {none}")?;
+    for (number, count) in tally.numbers.iter().enumerate().skip(1) {
+        writeln!(f, "damaged, {refused} {number}: {count}")?;
+    }
+    Ok(())
+}
+
+impl fmt::Display for Tally {
+    fn fmt<W: fmt::Write>(&self, f: &mut fmt::Formatter<W>) -> fmt::Result {
+        write_count(f, "bad", self.bad)?;
+        write_count(f, "good", self.good)?;
+        write_count(f, "either", self.either)?;
+        write_count(f, "neither", self.neither)?;
+        write_count(f, "all words", self.words())?;
+        write_outs(f, &self.outs)?;
+        write_count(f, format_args!("out in {MANY} or more"), self.outs_beyond)?;
+        let hidden = self.hidden;
+        writeln!(f, "hidden, walked and gone round twice: {hidden}")?;
+        write_refusals(f, "judge takes it", "judge turns it away by", &self.turned)?;
+        write_refusals(f, "follow takes it", "follow refuses by", &self.refused)
     }
 }

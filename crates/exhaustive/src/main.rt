@@ -4,22 +4,18 @@
 mod calls;
 mod cases;
 mod counts;
-mod failure;
 mod lassos;
-mod plants;
 mod refusals;
 mod rooms;
 mod runs;
-mod signs;
-mod states;
 mod verdicts;
 mod words;
 
+use anyhow::ensure;
+use bare::Plant;
 use calls::Call;
 use cases::compare_cases;
 use counts::Tally;
-use failure::{Failure, mismatch};
-use plants::Plant;
 use random::Random;
 use refusals::{compare_follow, compare_judge, follow_refusal, judge_refusal};
 use rooms::first_part;
@@ -28,8 +24,6 @@ use std::alloc::Global;
 use std::process::ExitCode;
 use verdicts::compare_verdict;
 use words::compare_words;
-
-const SEED: u64 = 0x9e37_79b9_7f4a_7c15;
 
 const PLANTS: u32 = 20_000;
 
@@ -42,11 +36,11 @@ fn compare_answers(
     plant: Plant,
     room: &mut [u16],
     tally: &mut Tally,
-) -> Result<(), Failure> {
+) -> anyhow::Result<()> {
     let runs = Runs::of(heap, plant)?;
     let mut memory = vec![in heap; 0; 2 * usize::from(plant.states)]?;
-    compare_words(plant, &runs, memory.as_mut_slice(), tally)?;
-    compare_verdict(plant, &runs, room, tally)
+    compare_words(&runs, memory.as_mut_slice(), tally)?;
+    compare_verdict(&runs, room, tally)
 }
 
 // Compares what the entries refuse.
@@ -55,7 +49,7 @@ fn compare_refusals(
     call: &Call,
     room: &mut [u16],
     tally: &mut Tally,
-) -> Result<(), Failure> {
+) -> anyhow::Result<()> {
     let memory = call.memory.as_slice();
     let turned = judge_refusal(call.plant(), room.len());
     let refused = follow_refusal(call.plant(), memory, call.sign);
@@ -66,7 +60,7 @@ fn compare_refusals(
 }
 
 // Hands on what a comparison gave, and prints the plant if it failed.
-fn explain(rt: &HostRuntime, plant: Plant, compared: Result<(), Failure>) -> Result<(), Failure> {
+fn explain(rt: &HostRuntime, plant: Plant, compared: anyhow::Result<()>) -> anyhow::Result<()> {
     if compared.is_err() {
         let states = plant.states;
         let arrows = plant.arrows;
@@ -82,7 +76,7 @@ fn compare_plant(
     random: &mut Random,
     room: &mut [u16],
     tally: &mut Tally,
-) -> Result<(), Failure> {
+) -> anyhow::Result<()> {
     let heap = rt.alloc();
     let mut call = Call::random(heap, random)?;
     let spare = random.place(3);
@@ -101,22 +95,22 @@ fn compare_plant(
     explain(rt, call.plant(), compared)
 }
 
-fn compare_plants(rt: &HostRuntime, room: &mut [u16]) -> Result<(), Failure> {
-    let mut random = Random::new(SEED);
+fn compare_plants(rt: &HostRuntime, room: &mut [u16]) -> anyhow::Result<()> {
+    let mut random = Random::default();
     let mut tally = Tally::new();
     for _ in 0..PLANTS {
         compare_plant(rt, &mut random, room, &mut tally)?;
     }
     println!(rt; "random plants: {PLANTS}")?;
-    tally.print(rt)?;
-    if tally.mostly_settled() {
-        Ok(())
-    } else {
-        Err(mismatch("words settled, of two", 0, "at least", 1))
-    }
+    print!(rt; "{tally}")?;
+    ensure!(
+        tally.is_mostly_settled(),
+        "not even half of the words are settled"
+    );
+    Ok(())
 }
 
-fn run(rt: &HostRuntime) -> Result<(), Failure> {
+fn run(rt: &HostRuntime) -> anyhow::Result<()> {
     let mut room = vec![in rt.alloc(); 0u16; ROOM]?;
     compare_cases(rt, room.as_mut_slice())?;
     compare_plants(rt, room.as_mut_slice())
@@ -125,8 +119,8 @@ fn run(rt: &HostRuntime) -> Result<(), Failure> {
 fn main(rt: HostRuntime) -> ExitCode {
     match run(&rt) {
         Ok(()) => ExitCode::SUCCESS,
-        Err(failure) => {
-            let _ = failure.print(&rt);
+        Err(error) => {
+            let _ = println!(rt; "{error}");
             ExitCode::FAILURE
         }
     }

@@ -1,110 +1,107 @@
 // Which rule turns a call away, and what the entries refuse.
-use crate::failure::{Failure, mismatch};
-use crate::plants::Plant;
-use crate::rooms::{fill, least_room, unchanged};
-use diagnosability::Verdict;
-use observer::Word;
+use crate::rooms::least_room;
+use anyhow::ensure;
+use bare::{Plant, fill, is_unchanged};
+use diagnosability::judge;
+use observer::follow;
+use plant::Refusal;
 use std::alloc::Global;
 
+// What a rule is about. It stands for the number that the entries give it, by which answers are compared and counted.
+#[derive(Clone, Copy, PartialEq, Eq)]
+pub enum Rule {
+    States = 1,
+    Events = 2,
+    Arrows = 3,
+    // That `judge` is lent.
+    Room = 4,
+    // The memory and the sign, of `follow`.
+    Memory = 5,
+}
+
+// A sign and a mark by turns.
 fn events_wrong(events: &[u16]) -> bool {
-    for (i, number) in events.iter().enumerate() {
-        // A sign and a mark by turns.
-        let most = if i % 2 == 0 { 255 } else { 1 };
-        if *number > most {
-            return true;
-        }
-    }
-    events.len() % 2 != 0 || events.len() > 2 * 64
+    let too_large = events.iter().enumerate().any(|(place, number)| {
+        let most = if place % 2 == 0 { 255 } else { 1 };
+        *number > most
+    });
+    too_large || events.len() % 2 != 0 || events.len() > 2 * 64
 }
 
+// A state, an event and a state by turns.
 fn arrows_wrong(plant: Plant) -> bool {
-    for (i, number) in plant.arrows.iter().enumerate() {
-        // A state, an event and a state by turns.
-        let bound = if i % 3 == 1 {
-            plant.events.len() / 2
-        } else {
-            usize::from(plant.states)
-        };
-        if usize::from(*number) >= bound {
-            return true;
-        }
-    }
-    plant.arrows.len() % 3 != 0 || plant.arrows.len() > 3 * 1_024
+    let states = usize::from(plant.states);
+    let events = plant.events.len() / 2;
+    let too_large = plant.arrows.iter().enumerate().any(|(place, number)| {
+        let bound = if place % 3 == 1 { events } else { states };
+        usize::from(*number) >= bound
+    });
+    too_large || plant.arrows.len() % 3 != 0 || plant.arrows.len() > 3 * 1_024
 }
 
-// The rule that the plant's numbers break first, 0 being none.
-fn plant_refusal(plant: Plant) -> u64 {
+// The first rule that the plant's numbers break.
+fn plant_refusal(plant: Plant) -> Option<Rule> {
     if plant.states == 0 || plant.states > 32 {
-        1
+        Some(Rule::States)
     } else if events_wrong(plant.events) {
-        2
+        Some(Rule::Events)
     } else if arrows_wrong(plant) {
-        3
+        Some(Rule::Arrows)
     } else {
-        0
+        None
     }
 }
 
 // By which rule `judge` must turn the call away: those of the plant come before that of the room.
-pub fn judge_refusal(plant: Plant, room_length: usize) -> u64 {
-    match plant_refusal(plant) {
-        0 if room_length < least_room(plant.states) => 4,
-        number => number,
-    }
-}
-
-fn marks_wrong(memory: &[u8]) -> bool {
-    for mark in memory {
-        if *mark > 1 {
-            return true;
-        }
-    }
-    false
+pub fn judge_refusal(plant: Plant, room_length: usize) -> Option<Rule> {
+    let wrong = room_length < least_room(plant.states);
+    plant_refusal(plant).or(wrong.then_some(Rule::Room))
 }
 
 // By which rule `follow` must refuse the call: those of the plant come before that of the memory and the sign.
-pub fn follow_refusal(plant: Plant, memory: &[u8], sign: u64) -> u64 {
-    let wrong = memory.len() != 2 * usize::from(plant.states) || marks_wrong(memory) || sign > 255;
-    match plant_refusal(plant) {
-        0 if wrong => 5,
-        number => number,
-    }
+pub fn follow_refusal(plant: Plant, memory: &[u8], sign: u64) -> Option<Rule> {
+    let wrong = memory.len() != 2 * usize::from(plant.states)
+        || memory.iter().any(|mark| *mark > 1)
+        || sign > 255;
+    plant_refusal(plant).or(wrong.then_some(Rule::Memory))
 }
 
-// Whether `judge` turns the call away by that rule, 0 being none, and leaves the room as it was if it does.
-pub fn compare_judge(plant: Plant, room: &mut [u16], expected: u64) -> Result<(), Failure> {
+// Whether `judge` turns the call away by that rule, if by any, and leaves the room as it was if it does.
+pub fn compare_judge(plant: Plant, room: &mut [u16], expected: Option<Rule>) -> anyhow::Result<()> {
+    let expected = expected.map(|rule| rule as u64);
     fill(room);
-    let came = match plant.judge(room) {
-        Verdict::Turned(number) => number,
-        _ => 0,
-    };
-    if came != expected {
-        return Err(mismatch("judge turns away by", came, "refusal", expected));
-    }
-    if came != 0 && !unchanged(room, 0) {
-        return Err(mismatch("judge changes the room at refusal", came, "no change", 0));
-    }
+    let came = judge(plant.into(), room).err().map(Refusal::number);
+    ensure!(
+        came == expected,
+        "judge turns away by {came:?}, but expected refusal {expected:?}"
+    );
+    ensure!(
+        came.is_none() || is_unchanged(room, 0),
+        "judge changes the room at refusal {came:?}"
+    );
     Ok(())
 }
 
-// Whether `follow` refuses the call by that rule, 0 being none, and leaves the memory as it was if it does.
+// Whether `follow` refuses the call by that rule, if by any, and leaves the memory as it was if it does.
 pub fn compare_follow(
     heap: Global,
     plant: Plant,
     memory: &[u8],
     sign: u64,
-    expected: u64,
-) -> Result<(), Failure> {
+    expected: Option<Rule>,
+) -> anyhow::Result<()> {
+    let expected = expected.map(|rule| rule as u64);
     let mut after = memory.to_vec(heap)?;
-    let came = match plant.follow(after.as_mut_slice(), sign) {
-        Word::Refused(number) => number,
-        _ => 0,
-    };
-    if came != expected {
-        return Err(mismatch("follow refuses by", came, "refusal", expected));
-    }
-    if came != 0 && after.as_slice() != memory {
-        return Err(mismatch("follow changes the memory at refusal", came, "no change", 0));
-    }
+    let came = follow(plant.into(), after.as_mut_slice(), sign)
+        .err()
+        .map(Refusal::number);
+    ensure!(
+        came == expected,
+        "follow refuses by {came:?}, but expected refusal {expected:?}"
+    );
+    ensure!(
+        came.is_none() || after.as_slice() == memory,
+        "follow changes the memory at refusal {came:?}"
+    );
     Ok(())
 }

@@ -1,142 +1,103 @@
 // What `follow` says and marks, compared with the runs.
 use crate::counts::Tally;
-use crate::failure::{Failure, mismatch};
-use crate::plants::Plant;
 use crate::runs::{Ends, Runs};
-use crate::signs::{NO_SIGNS, Signs, digits, with_sign};
-use crate::states::States;
-use observer::Word;
+use anyhow::{bail, ensure};
+use bare::{Plant, Set, Signs, marked};
+use observer::{Word, follow};
+use plant::Refusal;
 
 // The signs that are tried are those that events show, and this one, which none does.
 const UNSHOWN: u16 = 4;
 
-// Up to three signs, 0 standing for none.
-type Row = [u16; 3];
-
-fn row_code(row: Row) -> Signs {
-    let mut code = NO_SIGNS;
-    for sign in row {
-        code = with_sign(code, sign);
-    }
-    code
-}
+// Rows of up to so many signs are followed.
+const LENGTH: u16 = 3;
 
 // Follows the row from the beginning. The memory may hold anything before.
-fn follow_row(plant: Plant, row: Row, memory: &mut [u8]) -> Word {
-    let mut word = plant.follow(memory, 0);
-    for sign in row {
-        if sign != 0 {
-            word = plant.follow(memory, u64::from(sign));
+fn follow_row(plant: Plant, row: Signs, memory: &mut [u8]) -> Result<Word, Refusal> {
+    let mut word = follow(plant.into(), memory, 0)?;
+    for later in (0..LENGTH).rev() {
+        let part = row.parts().nth(usize::from(later));
+        if let Some(sign) = part.and_then(Signs::last) {
+            word = follow(plant.into(), memory, u64::from(sign))?;
         }
     }
-    word
+    Ok(word)
 }
 
-// The states marked from a place on.
-fn marked(memory: &[u8], states: u16, first: u16) -> States {
-    let mut set = States::NONE;
-    for state in 0..states {
-        let place = usize::from(first) + usize::from(state);
-        if memory.get(place).copied() == Some(1) {
-            set = set.with(state);
-        }
-    }
-    set
-}
-
-// What a word says: whether a run without a fault shows the signs, and whether one with a fault does.
-#[derive(Clone, Copy)]
-struct Claim {
-    good: bool,
-    bad: bool,
-    // The word's place in a tally.
-    place: u64,
-    text: &'static str,
-}
-
-fn meaning(word: Word) -> Option<Claim> {
-    let (good, bad, place, text) = match word {
-        Word::Bad => (false, true, 0, "follow says bad after the signs"),
-        Word::Good => (true, false, 1, "follow says good after the signs"),
-        Word::Either => (true, true, 2, "follow says either after the signs"),
-        Word::Neither => (false, false, 3, "follow says neither after the signs"),
-        Word::Refused(_) => return None,
-    };
-    Some(Claim {
-        good,
-        bad,
-        place,
-        text,
+// The states that are marked, if every mark is 0 or 1.
+fn marked_ends(memory: &[u8]) -> Option<Ends> {
+    let (good, bad) = memory.split_at(memory.len() / 2);
+    Some(Ends {
+        good: marked(good)?,
+        bad: marked(bad)?,
     })
 }
 
-// If every run was tried, what is said must be what was found. If not, all that was found must be said.
-fn agrees(said: bool, found: bool, settled: bool) -> bool {
-    said == found || (said && !settled)
+// What is known where the states of these ends can have been reached.
+fn word_of(Ends { good, bad }: Ends) -> Word {
+    match (good.is_empty(), bad.is_empty()) {
+        (true, true) => Word::Neither,
+        (true, false) => Word::Bad,
+        (false, true) => Word::Good,
+        (false, false) => Word::Either,
+    }
 }
 
-// As `agrees`, for each state.
-fn marks_agree(marked: States, found: States, settled: bool) -> bool {
-    found.lies_within(marked) && (marked.lies_within(found) || !settled)
+// If every run was tried, the states that are marked must be those that were found. If not, all that were found must be marked.
+fn agrees(marked: Set, found: Set, settled: bool) -> bool {
+    marked == found || (found.lies_within(marked) && !settled)
 }
 
 fn compare_row(
-    plant: Plant,
     runs: &Runs,
-    row: Row,
+    row: Signs,
     memory: &mut [u8],
     tally: &mut Tally,
-) -> Result<(), Failure> {
-    let word = follow_row(plant, row, memory);
-    let code = row_code(row);
-    let settled = runs.settle(code);
-    let Ends { good, bad } = runs.ends(code);
-    let Some(claim) = meaning(word) else {
-        return Err(mismatch("follow refuses after the signs", digits(code), "a word", 0));
+) -> anyhow::Result<()> {
+    let followed = follow_row(runs.plant, row, memory);
+    let Some(marks) = marked_ends(memory) else {
+        bail!("follow leaves a mark that is neither 0 nor 1 after the signs {row}");
     };
-    if !agrees(claim.good, !good.is_empty(), settled)
-        || !agrees(claim.bad, !bad.is_empty(), settled)
-    {
-        return Err(mismatch(
-            claim.text,
-            digits(code),
-            "what the runs say, settled",
-            u64::from(settled),
-        ));
-    }
-    let marked_good = marked(memory, plant.states, 0);
-    let marked_bad = marked(memory, plant.states, plant.states);
-    if !marks_agree(marked_good, good, settled) || !marks_agree(marked_bad, bad, settled) {
-        return Err(mismatch("wrong marks where", digits(code), claim.text, 0));
-    }
-    tally.add_word(claim.place, settled);
+    let word = word_of(marks);
+    ensure!(
+        followed == Ok(word),
+        "follow says another word than the marks after the signs {row}"
+    );
+    let settled = runs.settle(row);
+    let ends = runs.ends(row);
+    ensure!(
+        agrees(marks.good, ends.good, settled) && agrees(marks.bad, ends.bad, settled),
+        "wrong marks after the signs {row}, settled {settled}"
+    );
+    tally.add_word(word, settled);
     Ok(())
 }
 
-// Whether the sign is none or one that is tried.
 fn is_tried(plant: Plant, sign: u16) -> bool {
-    for i in 0..plant.events.len() / 2 {
-        if plant.events[2 * i] == sign {
-            return true;
+    sign == UNSHOWN || plant.events.iter().step_by(2).any(|shown| *shown == sign)
+}
+
+// Follows the row and all that go on from it by up to so many tried signs.
+fn compare_rows(
+    runs: &Runs,
+    row: Signs,
+    more: u16,
+    memory: &mut [u8],
+    tally: &mut Tally,
+) -> anyhow::Result<()> {
+    compare_row(runs, row, memory, tally)?;
+    if more == 0 {
+        return Ok(());
+    }
+    for sign in 1..=UNSHOWN {
+        if is_tried(runs.plant, sign) {
+            compare_rows(runs, row.then(Some(sign)), more - 1, memory, tally)?;
         }
     }
-    sign == 0 || sign == UNSHOWN
+    Ok(())
 }
 
 // Follows all rows of up to three tried signs, and compares each word and all marks.
-pub fn compare_words(
-    plant: Plant,
-    runs: &Runs,
-    memory: &mut [u8],
-    tally: &mut Tally,
-) -> Result<(), Failure> {
-    for number in 0..125u16 {
-        // The digits of the number to the base 5.
-        let [first, second, third] = [number / 25, number / 5 % 5, number % 5];
-        let no_gap = (first != 0 || second == 0) && (second != 0 || third == 0);
-        if no_gap && is_tried(plant, first) && is_tried(plant, second) && is_tried(plant, third) {
-            compare_row(plant, runs, [first, second, third], memory, tally)?;
-        }
-    }
-    Ok(())
+pub fn compare_words(runs: &Runs, memory: &mut [u8], tally: &mut Tally) -> anyhow::Result<()> {
+    compare_rows(runs, Signs::NONE, LENGTH, memory, tally)
 }

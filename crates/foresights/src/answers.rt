@@ -1,74 +1,87 @@
 // What `foretell` answers, compared with the runs.
-use crate::plants::Plant;
-use crate::rows::{has_fault, is_run, seen};
 use crate::runs::misses;
-use predictability::Foresight;
+use bare::{Plant, Set, fill, is_unchanged, rows};
+use predictability::{Missed, foretell};
+use std::fmt;
 
 // How often each answer came for a number of events.
 #[derive(Clone, Copy)]
 pub struct Tally {
-    pub foretold: u32,
-    pub missed: u32,
+    pub ahead: u64,
+    foretold: u32,
+    missed: u32,
 }
 
 impl Tally {
-    pub const NONE: Tally = Tally {
-        foretold: 0,
-        missed: 0,
-    };
+    pub fn new(ahead: u64) -> Tally {
+        Tally {
+            ahead,
+            foretold: 0,
+            missed: 0,
+        }
+    }
+}
+
+impl fmt::Display for Tally {
+    fn fmt<W: fmt::Write>(&self, f: &mut fmt::Formatter<W>) -> fmt::Result {
+        let Tally {
+            ahead,
+            foretold,
+            missed,
+        } = *self;
+        write!(f, "in {ahead}: foretold {foretold}, not foretold {missed}")
+    }
 }
 
 // Enough for the most states that are drawn, and some to spare.
 const ROOM: usize = 8 * 4 * 4 + 5;
 
-// What stands in the room that is lent; it is no event.
-const LENT: u16 = 999;
-
-// The first so many numbers, and the rest.
-fn cut(room: &[u16], length: u64) -> Option<(&[u16], &[u16])> {
-    room.split_at_checked(usize::try_from(length).ok()?)
+// Whether the events of two rows, one after the other, are a run from state 0.
+fn is_run(plant: Plant, earlier: &[u16], later: &[u16]) -> bool {
+    let between = plant.walk(Set::one(0), earlier);
+    !plant.walk(between, later).is_empty()
 }
 
-fn unchanged(room: &[u16]) -> bool {
-    for number in room {
-        if *number != LENT {
-            return false;
-        }
-    }
-    true
-}
-
-// Whether the room begins with four rows of these lengths that show that a fault is not foretold, and is as it was behind them.
-fn holds_rows(plant: Plant, ahead: u64, room: &[u16], lengths: [u64; 4]) -> Option<bool> {
-    let [a, b, c, d] = lengths;
-    let (run, rest) = cut(room, a)?;
-    let (fault, rest) = cut(rest, b)?;
-    let (other, rest) = cut(rest, c)?;
-    let (later, rest) = cut(rest, d)?;
+// Whether the room holds four rows of these lengths that show that a fault is not foretold.
+fn holds_rows(plant: Plant, ahead: u64, room: &[u16], lengths: [u64; 4]) -> bool {
+    let Some(rows) = rows(room, lengths) else {
+        return false;
+    };
+    let [run, fault, other, later] = rows;
     let runs = is_run(plant, run, fault) && is_run(plant, other, later);
-    let faults = has_fault(plant, fault)
-        && !has_fault(plant, run)
-        && !has_fault(plant, other)
-        && !has_fault(plant, later);
-    let sizes = b == 1 && d == ahead.min(u64::from(plant.states));
-    let alike = seen(plant, run) == seen(plant, other);
-    Some(runs && faults && sizes && alike && unchanged(rest))
+    let faults = plant.has_fault(fault)
+        && !plant.has_fault(run)
+        && !plant.has_fault(other)
+        && !plant.has_fault(later);
+    let sizes = fault.len() == 1 && later.len() as u64 == ahead.min(u64::from(plant.states));
+    runs && faults && sizes && plant.show_the_same(run, other)
 }
 
 // Whether the answer on a plant is what the runs show.
-pub fn compare(plant: Plant, ahead: u64, tally: &mut Tally) -> bool {
-    let mut room = [LENT; ROOM];
+pub fn compare(plant: Plant, tally: &mut Tally) -> bool {
+    let ahead = tally.ahead;
+    let mut room = [0; ROOM];
+    fill(&mut room);
     // With four states, what lasts for six events lasts for any number.
     let missed = misses(plant, ahead.min(6) as u16);
-    match plant.foretell(ahead, &mut room) {
-        Foresight::Foretold => {
+    match foretell(plant.into(), ahead, &mut room) {
+        Ok(None) => {
             tally.foretold = tally.foretold.saturating_add(1);
-            !missed && unchanged(&room)
+            !missed && is_unchanged(&room, 0)
         }
-        Foresight::NotForetold(a, b, c, d) => {
+        Ok(
+            Some(
+                Missed {
+                    run,
+                    fault,
+                    other,
+                    later,
+                },
+            ),
+        ) => {
             tally.missed = tally.missed.saturating_add(1);
-            missed && holds_rows(plant, ahead, &room, [a, b, c, d]) == Some(true)
+            missed && holds_rows(plant, ahead, &room, [run, fault, other, later])
         }
-        Foresight::Turned(_) => false,
+        Err(_) => false,
     }
 }

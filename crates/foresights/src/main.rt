@@ -3,53 +3,60 @@
 
 mod answers;
 mod plants;
-mod rows;
 mod runs;
 
 use answers::{Tally, compare};
-use plants::{Drawn, Plant};
+use bare::Plant;
+use plants::Drawn;
 use random::Random;
-use std::io;
-
-const SEED: u64 = 0x9e37_79b9_7f4a_7c15;
+use std::alloc::{AllocError, Global};
+use std::{fmt, io};
 
 const PLANTS: u32 = 3_000;
 
 // How many events are asked for: each number up to six, and one far beyond the states.
 const AHEAD: [u64; 8] = [0, 1, 2, 3, 4, 5, 6, u64::MAX];
 
-// For which number of events the answer on a plant is wrong.
-fn compare_plant(plant: Plant, tallies: &mut [Tally]) -> Option<u64> {
-    for (ahead, tally) in AHEAD.iter().zip(tallies.iter_mut()) {
-        if !compare(plant, *ahead, tally) {
-            return Some(*ahead);
-        }
-    }
-    None
+// On which plant an answer is wrong, and for which number of events.
+#[derive(Clone, Copy)]
+struct Mismatch {
+    plant: u32,
+    ahead: u64,
 }
 
-// The first plant on which an answer is wrong, and for which number of events.
-fn compare_plants(tallies: &mut [Tally]) -> Option<(u32, u64)> {
-    let mut random = Random::new(SEED);
-    for number in 0..PLANTS {
-        let drawn = Drawn::random(&mut random);
+impl fmt::Display for Mismatch {
+    fn fmt<W: fmt::Write>(&self, f: &mut fmt::Formatter<W>) -> fmt::Result {
+        let Mismatch { plant, ahead } = *self;
+        write!(f, "MISMATCH at plant {plant}, in {ahead}")
+    }
+}
+
+// For which number of events the answer on a plant is wrong, if for one.
+fn compare_plant(plant: Plant, tallies: &mut [Tally]) -> Option<u64> {
+    tallies
+        .iter_mut()
+        .find_map(|tally| (!compare(plant, tally)).then_some(tally.ahead))
+}
+
+fn compare_plants(heap: Global, tallies: &mut [Tally]) -> Result<Option<Mismatch>, AllocError> {
+    let mut random = Random::default();
+    for plant in 0..PLANTS {
+        let drawn = Drawn::random(heap, &mut random)?;
         if let Some(ahead) = compare_plant(drawn.plant(), tallies) {
-            return Some((number, ahead));
+            return Ok(Some(Mismatch { plant, ahead }));
         }
     }
-    None
+    Ok(None)
 }
 
 fn main(rt: HostRuntime) -> io::Result<()> {
-    let mut tallies = [Tally::NONE; 8];
-    if let Some((number, ahead)) = compare_plants(&mut tallies) {
-        return println!(rt; "MISMATCH at plant {number}, in {ahead}");
+    let mut tallies = AHEAD.map(Tally::new);
+    if let Some(mismatch) = compare_plants(rt.alloc(), &mut tallies)? {
+        return println!(rt; "{mismatch}");
     }
     println!(rt; "random plants: {PLANTS}")?;
-    for (ahead, tally) in AHEAD.iter().zip(tallies.iter()) {
-        let foretold = tally.foretold;
-        let missed = tally.missed;
-        println!(rt; "in {ahead}: foretold {foretold}, not foretold {missed}")?;
+    for tally in &tallies {
+        println!(rt; "{tally}")?;
     }
     Ok(())
 }

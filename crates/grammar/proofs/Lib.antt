@@ -1,6 +1,4 @@
 pub mod Cuts
-pub mod Everys
-pub mod Lacking
 pub mod Names
 pub mod Numbers
 pub mod Texts

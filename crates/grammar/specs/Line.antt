@@ -1,6 +1,7 @@
 -- What a line says. These are definitions and assume nothing.
-use Rattle.std.specs.Prelude.{ℕ, ◌+◌, ◌-◌, ◌*◌, Bool, true, cond, not, ◌&&◌, ◌||◌, List, [], ◌∷◌, length, Some, None, codes, Option, ◌==◌, nat_le, nat_lt, slice_index}
+use Rattle.std.specs.Prelude.{ℕ, ◌+◌, ◌-◌, ◌*◌, Bool, cond, not, ◌&&◌, ◌||◌, List, [], ◌∷◌, length, Some, None, codes, Option, ◌==◌, nat_le, nat_lt, slice_index}
 use Rattle.std.proofs.Math.Utf8.{scalars, encodes}
+use Rattle.std.specs.List.{before_first, list_all}
 use Rattle.std.specs.Option.{option_map}
 use Rattle.std.specs.Char.{is_ascii_digit, is_ascii_alphabetic}
 use Rattle.std.specs.Str.{all_ascii_digits, bytes_eq, chars}
@@ -27,20 +28,15 @@ is_text bs = scalars (chars bs) && bytes_eq (encodes (chars bs)) bs
 
 -- the part of a line before a comment, which '#' begins
 abbrev pub before_comment : List ℕ → List ℕ
-before_comment [] = []
-before_comment (b ∷ bs) = cond (b == 35) [] (b ∷ before_comment bs)
+before_comment bs = before_first (λ b. b == 35) bs
 
 -- a letter, a digit, '-' or '_'
 abbrev pub name_byte : ℕ → Bool
 name_byte b = is_ascii_alphabetic b || (is_ascii_digit b || (b == 45 || b == 95))
 
-abbrev pub every : (ℕ → Bool) → List ℕ → Bool
-every p [] = true
-every p (b ∷ bs) = p b && every p bs
-
 -- a name begins with a letter, has at most 32 bytes, and is not `nothing`
 abbrev pub is_name : List ℕ → Bool
-is_name w = is_ascii_alphabetic (slice_index w 0) && (every name_byte w && (nat_le (length w) 32 && not (bytes_eq w (codes "nothing"))))
+is_name w = is_ascii_alphabetic (slice_index w 0) && (list_all name_byte w && (nat_le (length w) 32 && not (bytes_eq w (codes "nothing"))))
 
 -- the number that digits write, after the number so far
 abbrev pub read_on : ℕ → List ℕ → ℕ

@@ -1,12 +1,12 @@
 // A line as a statement.
-ghost use Rattle.std.specs.Prelude.{◌≡◌, true, false, [], ◌∷◌, MatchOption};
+ghost use Rattle.std.specs.Prelude.{◌≡◌};
 ghost use Rattle.std.specs.Option.{option_map};
-ghost use Rattle.grammar.specs.Line.{said, name_byte, every, is_name, numeral, is_text, two_words, three_words, of_text, of_line, before_comment};
+ghost use Rattle.grammar.specs.Line.{said, name_byte, is_name, numeral, is_text, two_words, three_words, of_text, of_line, before_comment};
 
 use crate::words::next_word;
 use std::str::from_utf8;
 
-#[derive(Clone, Copy)]
+#[derive(Clone, Copy, PartialEq, Eq, Debug)]
 pub enum Statement<'a> {
     Nothing,
     Arrow { from: u64, event: &'a str, to: u64 },
@@ -28,38 +28,20 @@ fn code_of(line: &str) -> &str
 fn is_name_byte(b: u8) -> bool
     ensures { result ≡ name_byte b }
 {
-    b.is_ascii_alphabetic() || b.is_ascii_digit() || b == b'-' || b == b'_'
-}
-
-fn all_name_bytes(b: &[u8]) -> bool
-    ensures { result ≡ every name_byte b.now }
-{
-    for x in b {
-        if !is_name_byte(*x) {
-            return false;
-        }
-    }
-    true
+    b.is_ascii_alphanumeric() || b == b'-' || b == b'_'
 }
 
 fn is_name(word: &str) -> bool
     ensures { result ≡ is_name word.now }
 {
-    let b = word.as_bytes();
-    if b.is_empty() {
+    // a row of no events is printed as `nothing`
+    if word.len() > 32 || word == "nothing" {
         return false;
     }
-    if b.len() > 32 {
-        return false;
-    }
-    if !b[0].is_ascii_alphabetic() {
-        return false;
-    }
-    // a row of no events is printed as this word
-    if word == "nothing" {
-        return false;
-    }
-    all_name_bytes(b)
+    word.as_bytes()
+        .first()
+        .is_some_and(|b| b.is_ascii_alphabetic())
+        && word.bytes().all(is_name_byte)
 }
 
 fn number(word: &str) -> Option<u64>
@@ -72,17 +54,13 @@ fn number(word: &str) -> Option<u64>
     if word.starts_with('+') {
         return None;
     }
-    word.parse::<u64>().ok()
+    word.parse().ok()
 }
 
 fn fault<'a>(event: &'a str, verb: &str) -> Option<Statement<'a>>
     ensures { option_map said result ≡ two_words event.now verb.now }
 {
-    if is_name(event) && verb == "fault" {
-        Some(Statement::Fault { event })
-    } else {
-        None
-    }
+    (is_name(event) && verb == "fault").then_some(Statement::Fault { event })
 }
 
 fn shows_or_arrow<'a>(first: &'a str, second: &'a str, third: &str) -> Option<Statement<'a>>
@@ -92,8 +70,10 @@ fn shows_or_arrow<'a>(first: &'a str, second: &'a str, third: &str) -> Option<St
         if second != "shows" {
             return None;
         }
-        let sign = number(third)?;
-        return Some(Statement::Shows { event: first, sign });
+        return Some(Statement::Shows {
+            event: first,
+            sign: number(third)?,
+        });
     }
     let from = number(first)?;
     if !is_name(second) {
@@ -124,20 +104,9 @@ fn read_text(line: &str) -> Option<Statement<'_>>
     }
 }
 
-// The bytes as text, if they are UTF-8.
-fn text_of(line: &[u8]) -> Option<&str>
-    ensures { MatchOption result (is_text line.now ≡ false) (λ s. (is_text line.now ≡ true) × (s.now ≡ line.now)) }
-{
-    match from_utf8(line) {
-        Ok(text) => Some(text),
-        Err(_) => None,
-    }
-}
-
 // What a line says, or nothing if it can't be read.
 pub fn read_line(line: &[u8]) -> Option<Statement<'_>>
     ensures { option_map said result ≡ of_line line.now }
 {
-    let text = text_of(line)?;
-    read_text(text)
+    read_text(from_utf8(line).ok()?)
 }

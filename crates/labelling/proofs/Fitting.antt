@@ -1,36 +1,27 @@
 -- Nothing is turned away if and only if it fits. Assumes nothing.
-use Rattle.std.proofs.Common.{◌≡◌, ℕ, zero, suc, ◌+◌, ◌-◌, ◌/◌, ◌<◌, ◌≤◌, Bool, true, false, cond, eqb, List, length, Some, None, Ok, Option, refl, arith}
+use Rattle.std.proofs.Common.{◌≡◌, ℕ, zero, suc, ◌+◌, ◌-◌, ◌/◌, ◌≤◌, Bool, true, false, cond, not, eqb, List, ◌∷◌, length, Some, None, is_some, refl, ap, ◌∙◌, add-one, arith}
+use Rattle.std.specs.List.{filter, range_with_len, slice_get}
 use Rattle.std.proofs.lemmas.Bool.{eqb-true, eqb-false, eq-eqb, ne_eqb}
-use Rattle.plant.specs.declared.parts.Refusal.{Refusal}
 use Rattle.plant.specs.declared.parts.Refusal.TheVariants.{Labelling}
-use Rattle.plant.specs.Checked.{checked}
 use Rattle.plant.specs.Refusals.{refusal}
+use Rattle.plant.specs.Validity.{Valid}
+use Rattle.outcome.proofs.Passed.{none_by}
+use Rattle.labelling.specs.declared.trials.Trials.{Trials}
 use Rattle.plant.proofs.Valid.{or_else_none, mapped_none, passed, failed, refused_or_valid}
 use Rattle.labelling.specs.Refused.{fault_in, sound_after, sound_events, row_refusal, labelling_refusal, Fit, RefusedOrFit}
 
--- event by event
-module _ (fault : ℕ → Bool) (many e m : ℕ) where
-  pub after_fault : e < m → fault e ≡ true → sound_after fault many e (m - e) ≡ sound_after fault many (e + 1) (m - (e + 1))
-  unfolding sound_after
-  after_fault h f =
-      let s : m - e ≡ suc (m - (e + 1)) = omega arith in
-      let k : suc e ≡ e + 1 = omega arith in
-      rw (s, f, k) refl
-
-  pub after_here : e < m → fault e ≡ false → many ≡ 0 → sound_after fault many e (m - e) ≡ Some e
-  unfolding sound_after
-  after_here h f z = let s : m - e ≡ suc (m - (e + 1)) = omega arith in rw (s, f, z) refl
-
-  pub after_more : e < m → fault e ≡ false → (many ≡ 0 → ⊥) → sound_after fault many e (m - e) ≡ sound_after fault (many - 1) (e + 1) (m - (e + 1))
-  unfolding sound_after
-  after_more h f some =
-      let s : m - e ≡ suc (m - (e + 1)) = omega arith in
-      let k : suc e ≡ e + 1 = omega arith in
-      rw (s, f, ne_eqb many 0 some, k) refl
-
-  pub after_none : m ≤ e → sound_after fault many e (m - e) ≡ None
-  unfolding sound_after
-  after_none h = let z : m - e ≡ 0 = omega arith in rw z refl
+-- the one that comes after so many others, in the list of those that are no faults
+pub nth_sound : (fault : ℕ → Bool) (many e n : ℕ) → slice_get (filter (λ k. not (fault k)) (range_with_len e n)) many ≡ sound_after fault many e n
+unfolding sound_after
+nth_sound fault many e zero = refl
+nth_sound fault many e (suc n) = by_fault (fault e) many (λ m. nth_sound fault m (e + 1) n ∙ ap (λ (k : ℕ). sound_after fault m k n) (add-one e))
+  where
+    by_fault : (b : Bool) (m : ℕ) → ((k : ℕ) → slice_get (filter (λ j. not (fault j)) (range_with_len (e + 1) n)) k ≡ sound_after fault k (suc e) n)
+        → slice_get (cond (not b) (e ∷ filter (λ j. not (fault j)) (range_with_len (e + 1) n)) (filter (λ j. not (fault j)) (range_with_len (e + 1) n))) m
+        ≡ cond b (sound_after fault m (suc e) n) (cond (eqb m 0) (Some e) (sound_after fault (m - 1) (suc e) n))
+    by_fault true m below = below m
+    by_fault false zero below = refl
+    by_fault false (suc m) below = let less : m ≡ suc m - 1 = omega arith in rw (ne_eqb (suc m) 0 (λ z. omega arith)) (below m ∙ ap (λ (k : ℕ). sound_after fault k (suc e) n) less)
 
 -- there is none just where there are few
 none_few : (fault : ℕ → Bool) (many e n : ℕ) → sound_after fault many e n ≡ None → sound_events fault e n ≤ many
@@ -79,7 +70,12 @@ refused_or_fit n xs es row = (fits, none)
     none : Fit n xs es row → labelling_refusal n xs es row ≡ None
     none fit = rw ((refused_or_valid n xs es).1 fit.valid) (fits-row es row fit.long fit.few)
 
--- an answer without an error
-pub nothing : (o : Option Refusal) → Ok tt ≡ checked o → o ≡ None
-nothing None e = refl
-nothing (Some r) e = let z : ◌≡◌ {A = ℕ} 0 1 = cc in absurd (omega arith)
+-- what the numbers of trials keep to
+pub valid_of : (t : Trials) → Valid t.numbers.states t.numbers.arrows.now t.numbers.events.now
+valid_of t = (refused_or_valid t.numbers.states t.numbers.arrows.now t.numbers.events.now).0 (none_by _ t.valid)
+
+-- numbers that are not turned away make trials
+pub tried : (n : ℕ) (xs es : List ℕ) (row : ℕ) → labelling_refusal n xs es row ≡ None → (row ≡ length es / 2) × (length es ≤ 128) × (is_some (refusal n xs es) ≡ false)
+tried n xs es row e =
+    let fit = (refused_or_fit n xs es row).0 e in
+    (fit.long, omega (arith, fit.valid.whole_events, fit.valid.few_events), ap is_some ((refused_or_valid n xs es).1 fit.valid))

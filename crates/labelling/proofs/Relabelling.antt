@@ -1,76 +1,40 @@
 -- Events with other signs, and what is found of a plant so labelled. Assumes nothing.
-use Rattle.std.proofs.Common.{◌≡◌, ℕ, zero, suc, ◌+◌, ◌*◌, ◌/◌, ◌<◌, ◌≤◌, Bool, true, false, eqb, ◌≢◌, List, length, get_or, take, set, replicate, None, MatchBool, sym, refl, ap, ◌∙◌, ⊎_elim, arith, length-take}
-use Rattle.std.proofs.ByRecursion.{All-weaker}
-use Rattle.std.proofs.lemmas.List.{get_or-set_same, get_or-set_other, get_or_past, get_or-take}
-use Rattle.std.proofs.lemmas.Bool.{cases_lt}
-use Rattle.plant.specs.declared.parts.Arrow.{Arrow}
-use Rattle.plant.specs.Numbers.{arrows_in, plant_in}
-use Rattle.plant.specs.Plant.{Plant, ComesOutIn, ComesOut}
+use Rattle.std.proofs.Common.{◌≡◌, ℕ, zero, suc, ◌+◌, ◌*◌, ◌/◌, ◌%◌, ◌<◌, ◌≤◌, Bool, cond, true, false, eqb, List, length, get_or, take, None, MatchBool, sym, refl, ap, ◌∙◌, ⊎_elim, arith, length-take}
+use denote.Param.Members.{Mut, Called}
+use Rattle.std.specs.Array.{IsFromFnResultFrom, IsFromFnResult}
+use Rattle.std.proofs.lemmas.List.{get_or_past, get_or-take}
+use Rattle.std.proofs.lemmas.Bool.{cases_lt, cases_eq}
+use Rattle.plant.specs.Numbers.{plant_in}
+use Rattle.plant.specs.Plant.{Plant, ComesOut}
 use Rattle.plant.specs.Refusals.{refusal}
-use Rattle.plant.specs.Validity.{Fits, Valid}
-use Rattle.plant.proofs.Judged.{not_both, walks_hide}
-use Rattle.plant.proofs.Valid.{refused_or_valid}
-use Rattle.twin.specs.Found.{KnotAt}
+use Rattle.plant.specs.Validity.{Valid}
+use Rattle.outcome.proofs.Changed as changed
 use Rattle.views.proofs.Finer.{finer_out}
 use Rattle.labelling.specs.Labels.{Does, labelled}
-use Rattle.labelling.specs.Trials.{Written, Writing}
+use Rattle.labelling.specs.Trials.{Written}
 
-pub zeros : (n k : ℕ) → get_or {A = ℕ} (replicate n 0) k 0 ≡ 0
-zeros zero k = refl
-zeros (suc n) zero = refl
-zeros (suc n) (suc k) = zeros n k
+-- what `from_fn` makes of a closure that stays as it is
+made_from : {F : Type 0} {g : Mut F (ℕ × Unit {0}) ℕ} {f : F} (h : ℕ → ℕ) (ys : List ℕ) → ((k y : ℕ) (q : F) → Called g f (k, tt) y q → (q ≡ f) × (y ≡ h k))
+    → (i n : ℕ) → IsFromFnResultFrom g f ys i n → (k : ℕ) → i ≤ k → k < i + n → get_or ys k 0 ≡ h k
+made_from h ys same i zero each k le lt = absurd (omega arith)
+made_from {f = f} h ys same i (suc n) each k le lt =
+    let call = same i each.1 each.0 each.3 in
+    let rest = rw call.0 at each.4 in
+    ⊎_elim (λ eq. ap (λ (j : ℕ). get_or ys j 0) eq ∙ each.2.1 0 ∙ call.1 ∙ ap h (sym eq)) (λ ne. made_from h ys same (i + 1) n rest k (omega arith) (omega arith)) (cases_eq k i)
 
--- before the first event is written
-pub writing_none : (es row zs : List ℕ) → ((k : ℕ) → get_or zs k 0 ≡ 0) → Writing es row zs 0
-writing_none es row zs zero' = record {
-  signs = λ e h. absurd (omega arith);
-  marks = λ e h. absurd (omega arith);
-  past = λ k h. zero' k;
-}
+pub made : {F : Type 0} {g : Mut F (ℕ × Unit {0}) ℕ} {f : F} (h : ℕ → ℕ) (ys : List ℕ) (n : ℕ) → IsFromFnResult g f ys n → ((k y : ℕ) (q : F) → Called g f (k, tt) y q → (q ≡ f) × (y ≡ h k)) → (k : ℕ) → k < n → get_or ys k 0 ≡ h k
+made h ys n r same k lt = made_from h ys same 0 n r.each k (omega arith) (omega arith)
 
--- one event more
-module _ (es row zs : List ℕ) (n : ℕ) (room : 2 * n + 1 < length zs) (so_far : Writing es row zs n) where
-  front : List ℕ
-  front = set zs (2 * n) (get_or row n 0)
-
-  next : List ℕ
-  next = set front (2 * n + 1) (get_or es (2 * n + 1) 0)
-
-  length_front : length front ≡ length zs
-  unfolding front
-  length_front = simp lib.ListN.length-set
-
-  other : (k : ℕ) → k ≢ 2 * n → k ≢ 2 * n + 1 → get_or next k 0 ≡ get_or zs k 0
-  unfolding front next
-  other k a b = get_or-set_other front (2 * n + 1) k (get_or es (2 * n + 1) 0) 0 b ∙ get_or-set_other zs (2 * n) k (get_or row n 0) 0 a
-
-  sign : get_or next (2 * n) 0 ≡ get_or row n 0
-  unfolding front next
-  sign =
-      let ne : 2 * n ≢ 2 * n + 1 = λ e. omega arith in
-      get_or-set_other front (2 * n + 1) (2 * n) (get_or es (2 * n + 1) 0) 0 ne ∙ get_or-set_same zs (2 * n) (get_or row n 0) 0 (omega arith)
-
-  mark : get_or next (2 * n + 1) 0 ≡ get_or es (2 * n + 1) 0
-  unfolding next
-  mark = get_or-set_same front (2 * n + 1) (get_or es (2 * n + 1) 0) 0 (omega (arith, length_front))
-
-  pub writing_more : Writing es row (set (set zs (2 * n) (get_or row n 0)) (2 * n + 1) (get_or es (2 * n + 1) 0)) (n + 1)
-  unfolding front next
-  writing_more = record {
-    signs = λ e h.
-        ⊎_elim (λ lt. other (2 * e) (λ z. omega arith) (λ z. omega arith) ∙ so_far.signs e lt)
-        (λ le. let at : e ≡ n = omega arith in rw at sign) (cases_lt e n);
-    marks = λ e h.
-        ⊎_elim (λ lt. other (2 * e + 1) (λ z. omega arith) (λ z. omega arith) ∙ so_far.marks e lt)
-        (λ le. let at : e ≡ n = omega arith in rw at mark) (cases_lt e n);
-    past = λ k h. other k (λ z. omega arith) (λ z. omega arith) ∙ so_far.past k (omega arith);
-  }
-
--- behind the last
-pub writing_all : (es row zs : List ℕ) (n : ℕ) → length es / 2 ≤ n → ((e : ℕ) → length es / 2 ≤ e → get_or row e 0 ≡ 0) → length es ≡ 2 * (length es / 2) → Writing es row zs n → Written es row zs
-writing_all es row zs n le past whole w = record {
-  signs = λ e. ⊎_elim (λ lt. w.signs e lt) (λ out. w.past (2 * e) (omega arith) ∙ sym (past e (omega arith))) (cases_lt e n);
-  marks = λ e. ⊎_elim (λ lt. w.marks e lt) (λ out. w.past (2 * e + 1) (omega arith) ∙ sym (get_or_past es (2 * e + 1) 0 (omega arith))) (cases_lt e n);
+-- place by place
+pub written : (es row es₁ : List ℕ) → length es ≤ 128 → length row ≡ 64 → length es₁ ≡ 128
+    → ((k : ℕ) → k < 128 → get_or es₁ k 0 ≡ cond (eqb (k % 2) 0) (get_or row (k / 2) 0) (get_or es k 0)) → Written es row es₁
+written es row es₁ few long size at = record {
+  signs = λ e.
+      ⊎_elim (λ lt. let even : (2 * e) % 2 ≡ 0 = omega arith in let half : (2 * e) / 2 ≡ e = omega arith in rw (even, half) at (at (2 * e) (omega arith)))
+      (λ le. get_or_past es₁ (2 * e) 0 (omega arith) ∙ sym (get_or_past row e 0 (omega arith))) (cases_lt e 64);
+  marks = λ e.
+      ⊎_elim (λ lt. let odd : (2 * e + 1) % 2 ≡ 1 = omega arith in rw odd at (at (2 * e + 1) (omega arith)))
+      (λ le. get_or_past es₁ (2 * e + 1) 0 (omega arith) ∙ sym (get_or_past es (2 * e + 1) 0 (omega arith))) (cases_lt e 64);
 }
 
 -- numbers past the events are 0, so they can be left out
@@ -93,41 +57,9 @@ does_as p q arrows faults shows out = (
       out.1,
 )
 
--- what was found of a plant of the same numbers
-pub out_as : (xs es : List ℕ) {ys fs : List ℕ} (k : ℕ) → ys ≡ xs → fs ≡ es → ComesOutIn (plant_in ys fs) k → ComesOut (plant_in xs es)
-unfolding ComesOut
-out_as xs es k e f out = rw (← e, ← f) (k, out)
-
--- a knot hides a fault
-hidden : (p : Plant) (n s t : ℕ) → KnotAt p n s t → ComesOut p → ⊥
-hidden p n s t k out = not_both p _ _ _ _ s t out (walks_hide p (s, t) k.first k.marks k.round k.some)
-
-pub knotted : (xs es : List ℕ) {ys fs : List ℕ} (n s t : ℕ) → ys ≡ xs → fs ≡ es → KnotAt (plant_in ys fs) n s t → ComesOut (plant_in xs es) → ⊥
-knotted xs es {ys} {fs} n s t e f k = rw (← e, ← f) (hidden (plant_in ys fs) n s t k)
-
 module _ (n : ℕ) (xs es row events : List ℕ) (v : Valid n xs es) (size : length events ≡ 128) (small : (e : ℕ) → get_or row e 0 ≤ 255) (w : Written es row events) where
-  mark_small : (e : ℕ) → get_or es (2 * e + 1) 0 ≤ 1
-  mark_small e =
-      ⊎_elim (λ lt. v.marks e lt) (λ le. let z = get_or_past es (2 * e + 1) 0 (omega (arith, v.whole_events)) in omega arith) (cases_lt e (length es / 2))
-
-  arrow_fits : (a : Arrow) → Fits n (length es / 2) a → Fits n (length events / 2) a
-  arrow_fits a f = record { from = f.from; event = omega (arith, v.few_events, f.event); to = f.to }
-
-  valid : Valid n xs events
-  valid = record {
-    some_state = v.some_state;
-    few_states = v.few_states;
-    whole_events = omega arith;
-    few_events = omega arith;
-    signs = λ e h. omega (arith, w.signs e, small e);
-    marks = λ e h. omega (arith, w.marks e, mark_small e);
-    whole_arrows = v.whole_arrows;
-    few_arrows = v.few_arrows;
-    fits = All-weaker (Fits n (length es / 2)) (Fits n (length events / 2)) arrow_fits (arrows_in xs) v.fits;
-  }
-
   pub accepted : refusal n xs events ≡ None
-  accepted = (refused_or_valid n xs events).1 valid
+  accepted = changed.accepted n xs es events v size (λ e. omega (arith, w.signs e, small e)) w.marks
 
   pub decided : (m : ℕ) (r : Bool) → ((e : ℕ) → m ≤ e → get_or row e 0 ≡ 0) → MatchBool r (ComesOut (plant_in xs events)) (ComesOut (plant_in xs events) → ⊥)
       → MatchBool r (Does (plant_in xs es) (take m row)) (Does (plant_in xs es) (take m row) → ⊥)

@@ -9,7 +9,8 @@ use Rattle.labelling.specs.declared.rows.Row.{Row}
 use Rattle.labelling.specs.Labels.{Labels, Does, labelled, signs, FewestSigns, NoLabelling}
 use Rattle.labelling.specs.Trials.{Grown, top, Normal, Own, Sound, SameSigns, Rest, Improved, Improving}
 use Rattle.labelling.proofs.Growing.{top_over, number_under, top_small, grown_push, top_push, normal_count}
-use Rattle.labelling.proofs.Relabelling.{zeros, take_same}
+use Rattle.outcome.proofs.Changed.{zeros}
+use Rattle.labelling.proofs.Relabelling.{take_same}
 use Rattle.labelling.proofs.Renumbering.{normal_form}
 
 module _ (p : Plant) where
@@ -89,9 +90,9 @@ module _ (p : Plant) where
         normal_by true f kind = normal_more (omega arith) (λ g. kind)
         normal_by false f kind = normal_more (omega arith) (λ g. absurd (true≢false (sym g ∙ f)))
 
-    pub choice_more : (b : Bool) → p.fault at ≡ b → k < cond b 1 (l.signs + 2) → Normal p (at + 1) l₁
-    choice_more true f lt = normal_more (omega arith) (λ g. omega arith)
-    choice_more false f lt = normal_more (omega arith) (λ g. absurd (true≢false (sym g ∙ f)))
+    pub choice_more : (b : Bool) → p.fault at ≡ b → k ≤ cond b 0 (l.signs + 1) → Normal p (at + 1) l₁
+    choice_more true f le = normal_more (omega arith) (λ g. omega arith)
+    choice_more false f le = normal_more (omega arith) (λ g. absurd (true≢false (sym g ∙ f)))
 
   -- with no fewer signs nothing is gained
   pub improved_by_none : (m at : ℕ) (l best : Row) → Sound p m best → best.signs ≤ l.signs → Improved p m at l best best
@@ -144,11 +145,11 @@ module _ (p : Plant) where
           (cases_lt j k)
 
   -- all numbers that the next event can get are tried
-  pub improving_all : (m at h : ℕ) (l old best : Row) (b : Bool) → at < m → p.fault at ≡ b → cond b 1 (l.signs + 2) ≤ h → Improving p m at h l old best → Improved p m at l old best
+  pub improving_all : (m at h : ℕ) (l old best : Row) (b : Bool) → at < m → p.fault at ≡ b → cond b 0 (l.signs + 1) < h → Improving p m at h l old best → Improved p m at l old best
   unfolding Grown
   improving_all m at h l old best b lt fault all so_far = record { sound = so_far.sound; below = so_far.below; least = least }
     where
-      first : (b : Bool) → p.fault at ≡ b → cond b 1 (l.signs + 2) ≤ h → (k : ℕ) (rest : List ℕ) → Rest p m at l.signs (k ∷ rest) → k < h
+      first : (b : Bool) → p.fault at ≡ b → cond b 0 (l.signs + 1) < h → (k : ℕ) (rest : List ℕ) → Rest p m at l.signs (k ∷ rest) → k < h
       first true fault all k rest r = let z : k ≡ 0 = r.faults 0 (subst (λ (e : ℕ). p.fault e ≡ true) (omega arith) fault) in omega arith
       first false fault all k rest r = omega (arith, r.grown.0)
 

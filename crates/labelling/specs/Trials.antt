@@ -1,8 +1,7 @@
 -- Labellings in normal form: signs are numbered in the order in which they are met. These are definitions and assume nothing.
 use Rattle.std.specs.Prelude.{◌≡◌, ℕ, suc, ◌+◌, ◌*◌, ◌/◌, ◌<◌, ◌≤◌, max, true, false, List, [], ◌∷◌, ◌++◌, length, take, slice_index}
-use Rattle.plant.specs.Numbers.{plant_in}
+use Rattle.plant.specs.Checked.{behaviour}
 use Rattle.plant.specs.Plant.{Plant}
-use Rattle.plant.specs.Validity.{Valid}
 use Rattle.labelling.specs.declared.rows.Row.{Row}
 use Rattle.labelling.specs.declared.trials.Trials.{Trials}
 use Rattle.labelling.specs.Labels.{Does, FewestSigns, signs}
@@ -80,21 +79,12 @@ pub record Written (es row es₁ : List ℕ) : Type 0 where
   pub signs : (e : ℕ) → slice_index es₁ (2 * e) ≡ slice_index row e
   pub marks : (e : ℕ) → slice_index es₁ (2 * e + 1) ≡ slice_index es (2 * e + 1)
 
--- the same of the first n events; the others are 0
-pub record Writing (es row es₁ : List ℕ) (n : ℕ) : Type 0 where
-  pub signs : (e : ℕ) → e < n → slice_index es₁ (2 * e) ≡ slice_index row e
-  pub marks : (e : ℕ) → e < n → slice_index es₁ (2 * e + 1) ≡ slice_index es (2 * e + 1)
-  pub past : (k : ℕ) → 2 * n ≤ k → slice_index es₁ k ≡ 0
-
--- the plant of the numbers that are lent, how many events it has, and that they make one
+-- the plant of the numbers that are lent, and how many events it has
 abbrev pub plant_of : Trials → Plant
-plant_of t = plant_in t.arrows.now t.events.now
+plant_of t = behaviour t.numbers
 
 abbrev pub events_of : Trials → ℕ
-events_of t = length t.events.now / 2
-
-abbrev pub ValidOf : Trials → Type 0
-ValidOf t = Valid t.states t.arrows.now t.events.now
+events_of t = length t.numbers.events.now / 2
 
 -- the fewest signs of all labellings
 abbrev pub Least : (p : Plant) (m : ℕ) → Row → Type 0

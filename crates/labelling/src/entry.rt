@@ -1,48 +1,23 @@
 // The entry: a labelling of the fewest signs over numbers that are lent. It asks nothing of its caller.
-ghost use Rattle.std.specs.Prelude.{◌≡◌, ◌/◌, length, None};
-ghost use Rattle.plant.specs.Numbers.{plant_in};
+ghost use Rattle.std.specs.Prelude.{◌≡◌, ◌/◌, length};
+ghost use Rattle.plant.specs.Checked.{Answered, behaviour};
 ghost use Rattle.labelling.specs.Answer.{LabellingSays};
 ghost use Rattle.labelling.specs.Refused.{labelling_refusal};
-ghost use Rattle.labelling.specs.Trials.{ValidOf, events_of, plant_of};
 
-use crate::answer::Labelling;
 use crate::checks::check;
 use crate::trials::Trials;
+use plant::{Numbers, Refusal};
 
-// What is answered where the row has one number for each event.
-fn decide(trials: Trials, signs: &mut [u16]) -> Labelling
-    requires valid { ValidOf trials }
-    requires long { length signs.old ≡ events_of trials }
-    ensures { LabellingSays None (plant_of trials.entry) (events_of trials.entry) signs.old result signs.new }
+// How many signs a labelling has with which every fault comes out, and no such labelling has fewer; none if not even signs of their own for all events do. What each event shows is left in the row, 0 being nothing.
+// An error is the first rule that turns the numbers away. Then, and where no labelling does, the row stays as it was.
+pub fn label(numbers: Numbers, signs: &mut [u16]) -> Result<Option<u64>, Refusal>
+    ensures { Answered (labelling_refusal numbers.entry.states numbers.entry.arrows.now numbers.entry.events.now (length signs.old)) (λ k. LabellingSays (behaviour numbers.entry) (length numbers.entry.events.now / 2) signs.old k signs.new) (signs.new ≡ signs.old) result }
 {
-    match trials.fewest() {
-        Some(best) => {
-            best.write(signs);
-            Labelling::Fewest(best.signs as u64)
-        }
-        None => Labelling::NoneDoes,
-    }
-}
-
-fn answer<'a>(states: u64, arrows: &'a [u16], events: &'a [u16], signs: &mut [u16]) -> Labelling
-    ensures { LabellingSays (labelling_refusal states arrows.now events.now (length signs.old)) (plant_in arrows.now events.now) (length events.now / 2) signs.old result signs.new }
-{
-    match check(states, arrows, events, signs.len() as u64) {
-        Ok(()) => {
-            let trials = Trials {
-                states,
-                arrows,
-                events,
-            };
-            decide(trials, signs)
-        }
-        Err(refusal) => Labelling::Turned(refusal.number()),
-    }
-}
-
-// A labelling of the fewest signs with which every fault comes out: what each event shows is left in the row, 0 being nothing.
-pub fn label(states: u64, arrows: &[u16], events: &[u16], signs: &mut [u16]) -> Labelling
-    ensures { LabellingSays (labelling_refusal states arrows.now events.now (length signs.old)) (plant_in arrows.now events.now) (length events.now / 2) signs.old result signs.new }
-{
-    answer(states, arrows, events, signs)
+    check(numbers, signs.len() as u64)?;
+    let trials = Trials { numbers };
+    let Some(best) = trials.fewest() else {
+        return Ok(None);
+    };
+    best.write(signs);
+    Ok(Some(best.signs as u64))
 }

@@ -1,7 +1,6 @@
 // Fewest signs: numbers for the events of a plant, faults 0, of as few different signs as there can be so that every fault comes out.
 #![tactic(auto)]
 
-mod answer;
 mod checks;
 mod entry;
 mod rows;
@@ -10,7 +9,6 @@ mod tests;
 mod theorems;
 mod trials;
 
-pub use answer::Labelling;
 pub use checks::check;
 pub use entry::label;
 pub use theorems::{normal_forms, refused_or_fit, signs_counted};

@@ -1,7 +1,11 @@
 // A number for each event, with how many signs there are among them.
-ghost use Rattle.std.specs.Prelude.{◌≡◌, ◌<◌, ◌≤◌, max, length, take, replicate, MatchBool, slice_set};
+ghost use Rattle.labelling.specs.Trials.{Written};
+ghost use Rattle.std.specs.Prelude.{◌≡◌, ◌/◌, ◌%◌, ◌<◌, ◌≤◌, ◌==◌, max, length, take, replicate, if◌then◌else◌, slice_index, slice_set};
+
+use std::array::from_fn;
 
 // What an event shows, 0 being nothing; behind the last event there are zeros.
+// An array and no `ArrayVec`: it is copied into each call of the search, which an `ArrayVec` is not.
 #[derive(Clone, Copy)]
 pub struct Row {
     pub labels: [u16; 64],
@@ -30,15 +34,8 @@ impl Row {
         labels[event] = label;
         Row {
             labels,
-            signs: larger(self.signs, label),
+            signs: self.signs.max(label),
         }
-    }
-
-    // Whether it has fewer signs than the other.
-    pub fn has_fewer(self, other: Row) -> bool
-        ensures { MatchBool result (self.signs < other.signs) (other.signs ≤ self.signs) }
-    {
-        self.signs < other.signs
     }
 
     // Leaves the first numbers.
@@ -48,10 +45,24 @@ impl Row {
     {
         row.copy_from_slice(&self.labels[..row.len()]);
     }
-}
 
-fn larger(a: u16, b: u16) -> u16
-    ensures { result ≡ max a b }
-{
-    if a < b { b } else { a }
+    // Number `k` of the events with these numbers in place of theirs: signs have even places, and behind the last event there are zeros.
+    fn number(self, events: &[u16], k: usize) -> u16
+        requires { k < 128 }
+        ensures { result ≡ (if k % 2 == 0 then slice_index self.labels (k / 2) else slice_index events.now k) }
+    {
+        if k % 2 == 0 {
+            self.labels[k / 2]
+        } else {
+            events.get(k).copied().unwrap_or(0)
+        }
+    }
+
+    // The events with these numbers in place of theirs.
+    pub fn relabel(self, events: &[u16]) -> [u16; 128]
+        requires { length events.now ≤ 128 }
+        ensures { Written events.now self.labels result }
+    {
+        from_fn(|k| self.number(events, k))
+    }
 }

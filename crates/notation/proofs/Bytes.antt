@@ -1,31 +1,29 @@
 -- Lines of plain words. Assumes nothing.
-use Rattle.std.proofs.Common.{◌≡◌, ℕ, zero, suc, ◌^◌, ◌<◌, Bool, true, false, not, ◌&&◌, eqb, ltb, List, [], ◌∷◌, ◌++◌, length, get_or, Some, codes, IsAscii, decimal, Option, sym, refl, ap, ◌∙◌, inl, inr, append_assoc, append-nil, arith}
+use Rattle.std.proofs.Common.{◌≡◌, ℕ, ◌^◌, ◌<◌, Bool, true, false, not, ◌&&◌, eqb, ltb, List, [], ◌∷◌, ◌++◌, length, get_or, Some, codes, IsAscii, decimal, Option, sym, refl, ap, ◌∙◌, inl, inr, append_assoc, append-nil, arith}
+use Rattle.std.specs.List.{list_all}
 use Rattle.std.specs.Char.{is_ascii_digit, is_ascii_alphabetic}
 use Rattle.std.specs.Str.{all_ascii_digits}
 use Rattle.std.proofs.lemmas.Fmt.{digits_decimal, digits_value-decimal, decimal_nonempty, length-decimal-le}
-use Rattle.std.proofs.lemmas.List.{get_or_past}
-use Rattle.std.proofs.lemmas.Bool.{cases_lt, and_parts, and_from, lt-ltb, le-leb, ltb-true, false≢true}
+use Rattle.std.proofs.lemmas.List.{get_or_past, take_all}
+use Rattle.std.proofs.lemmas.List.Folds.{list_all-append}
+use Rattle.std.proofs.lemmas.List.Sums.{AllPass-from_list_all, list_all-from_AllPass, position_or_len_is}
+use Rattle.std.proofs.lemmas.Bool.{ne_eqb, cases_lt, and_parts, and_from, lt-ltb, le-leb, ltb-true, false≢true}
 use Rattle.std.proofs.lemmas.Str.{IsUtf8-from_ascii}
 use Rattle.std.proofs.lemmas.Bool.Decides.{nat_tests}
-use Rattle.grammar.specs.Line.{Said, nothing, arrow, fault, shows, before_comment, name_byte, every, is_name, numeral, is_text, of_words, of_line}
+use Rattle.grammar.specs.Line.{Said, nothing, arrow, fault, shows, before_comment, name_byte, is_name, numeral, is_text, of_words, of_line}
 use Rattle.grammar.specs.Words.{blank, dark, words_from, words}
-use Rattle.grammar.proofs.Lacking.{before_all}
 use Rattle.grammar.proofs.Numbers.{own}
 use Rattle.grammar.proofs.Texts.{text_is}
 use Rattle.drawing.specs.Lines.{inside}
 
-pub every_append : (p : ℕ → Bool) (xs ys : List ℕ) → every p xs ≡ true → every p ys ≡ true → every p (xs ++ ys) ≡ true
-every_append p [] ys h k = k
-every_append p (x ∷ xs) ys h k = let q = and_parts (p x) (every p xs) h in and_from (p x) (every p (xs ++ ys)) q.0 (every_append p xs ys q.1 k)
+all_append : (p : ℕ → Bool) (xs ys : List ℕ) → list_all p xs ≡ true → list_all p ys ≡ true → list_all p (xs ++ ys) ≡ true
+all_append p xs ys h k = list_all-append p xs ys ∙ and_from (list_all p xs) (list_all p ys) h k
 
-every_weaker : (p q : ℕ → Bool) → ((b : ℕ) → p b ≡ true → q b ≡ true) → (xs : List ℕ) → every p xs ≡ true → every q xs ≡ true
-every_weaker p q f [] h = refl
-every_weaker p q f (x ∷ xs) h = let a = and_parts (p x) (every p xs) h in and_from (q x) (every q xs) (f x a.0) (every_weaker p q f xs a.1)
+all_weaker : (p q : ℕ → Bool) → ((b : ℕ) → p b ≡ true → q b ≡ true) → (xs : List ℕ) → list_all p xs ≡ true → list_all q xs ≡ true
+all_weaker p q f xs h = list_all-from_AllPass q xs (λ k d lt. f (get_or xs k d) (AllPass-from_list_all p xs h k d lt))
 
-every_at : (p : ℕ → Bool) (xs : List ℕ) (i : ℕ) → every p xs ≡ true → i < length xs → p (get_or xs i 0) ≡ true
-every_at p [] i h lt = absurd (omega arith)
-every_at p (x ∷ xs) zero h lt = (and_parts (p x) (every p xs) h).0
-every_at p (x ∷ xs) (suc i) h lt = every_at p xs i (and_parts (p x) (every p xs) h).1 (omega arith)
+all_at : (p : ℕ → Bool) (xs : List ℕ) (i : ℕ) → list_all p xs ≡ true → i < length xs → p (get_or xs i 0) ≡ true
+all_at p xs i h lt = AllPass-from_list_all p xs h i 0 lt
 
 -- is text by itself, and neither begins a comment nor ends a line
 abbrev pub clean : ℕ → Bool
@@ -44,20 +42,22 @@ clean-inside b h = (and_parts _ _ (and_parts (ltb b 128) _ h).1).1
 clean_low : (b : ℕ) → clean b ≡ true → b < 128
 clean_low b h = ltb-true b 128 (and_parts (ltb b 128) _ h).0
 
-pub no_comment : (l : List ℕ) → every clean l ≡ true → before_comment l ≡ l
-no_comment l h = before_all l (λ i lt e. not_35 _ (every_at clean l i h lt) e)
+pub no_comment : (l : List ℕ) → list_all clean l ≡ true → before_comment l ≡ l
+no_comment l h =
+    let all = position_or_len_is (λ b. eqb b 35) l (length l) 0 (omega arith) (λ k lt. ne_eqb _ 35 (not_35 _ (all_at clean l k h lt))) (λ lt. absurd (omega arith)) in
+    take_all _ l (omega (arith, all))
 
-pub one_line : (l : List ℕ) → every clean l ≡ true → every inside l ≡ true
-one_line l h = every_weaker clean inside clean-inside l h
+pub one_line : (l : List ℕ) → list_all clean l ≡ true → list_all inside l ≡ true
+one_line l h = all_weaker clean inside clean-inside l h
 
-low : (l : List ℕ) → every clean l ≡ true → IsAscii l
-low l h i = elim (cases_lt i (length l)) [ inl lt ↦ clean_low _ (every_at clean l i h lt) | inr le ↦ rw (get_or_past l i 0 le) (omega arith) ]
+low : (l : List ℕ) → list_all clean l ≡ true → IsAscii l
+low l h i = elim (cases_lt i (length l)) [ inl lt ↦ clean_low _ (all_at clean l i h lt) | inr le ↦ rw (get_or_past l i 0 le) (omega arith) ]
 
-is_clean_text : (l : List ℕ) → every clean l ≡ true → is_text l ≡ true
+is_clean_text : (l : List ℕ) → list_all clean l ≡ true → is_text l ≡ true
 is_clean_text l h = text_is l (IsUtf8-from_ascii l (low l h))
 
 -- a clean line says what its words say
-pub clean_says : (l : List ℕ) (o : Option Said) → every clean l ≡ true → of_words (words l) ≡ o → of_line l ≡ o
+pub clean_says : (l : List ℕ) (o : Option Said) → list_all clean l ≡ true → of_words (words l) ≡ o → of_line l ≡ o
 clean_says l o h says = let e = is_clean_text l h in rw e (ap (λ m. of_words (words m)) (no_comment l h) ∙ says)
 
 pub empty_says : of_line [] ≡ Some nothing
@@ -69,15 +69,15 @@ name_plain b h = grind (arith, nat_tests)
 digit-plain : (b : ℕ) → is_ascii_digit b ≡ true → plain b ≡ true
 digit-plain b h = grind (arith, nat_tests)
 
-pub plain-clean : (xs : List ℕ) → every plain xs ≡ true → every clean xs ≡ true
-plain-clean xs h = every_weaker plain clean (λ b e. (and_parts (dark b) (clean b) e).1) xs h
+pub plain-clean : (xs : List ℕ) → list_all plain xs ≡ true → list_all clean xs ≡ true
+plain-clean xs h = all_weaker plain clean (λ b e. (and_parts (dark b) (clean b) e).1) xs h
 
 -- a name and a number are plain words
 pub record Word (w : List ℕ) : Type 0 where
   pub some : 0 < length w
-  pub bytes : every plain w ≡ true
+  pub bytes : list_all plain w ≡ true
 
-name_parts : (w : List ℕ) → is_name w ≡ true → (is_ascii_alphabetic (get_or w 0 0) ≡ true) × (every name_byte w ≡ true)
+name_parts : (w : List ℕ) → is_name w ≡ true → (is_ascii_alphabetic (get_or w 0 0) ≡ true) × (list_all name_byte w ≡ true)
 name_parts w h = let p = and_parts _ _ h in (p.0, (and_parts _ _ p.1).0)
 
 name_some : (w : List ℕ) → is_name w ≡ true → 0 < length w
@@ -85,11 +85,11 @@ name_some [] h = absurd (false≢true h)
 name_some (b ∷ w) h = omega arith
 
 pub name_word : (w : List ℕ) → is_name w ≡ true → Word w
-name_word w h = record { some = name_some w h; bytes = every_weaker name_byte plain name_plain w (name_parts w h).1 }
+name_word w h = record { some = name_some w h; bytes = all_weaker name_byte plain name_plain w (name_parts w h).1 }
 
-digits-plain : (ds : List ℕ) → all_ascii_digits ds ≡ true → every plain ds ≡ true
+digits-plain : (ds : List ℕ) → all_ascii_digits ds ≡ true → list_all plain ds ≡ true
 digits-plain [] h = refl
-digits-plain (c ∷ ds) h = let p = and_parts (is_ascii_digit c) (all_ascii_digits ds) h in and_from (plain c) (every plain ds) (digit-plain c p.0) (digits-plain ds p.1)
+digits-plain (c ∷ ds) h = let p = and_parts (is_ascii_digit c) (all_ascii_digits ds) h in and_from (plain c) (list_all plain ds) (digit-plain c p.0) (digits-plain ds p.1)
 
 module _ (n : ℕ) (small : n < 10 ^ 18) where
   wide : n < 2 ^ 64
@@ -117,10 +117,10 @@ module _ (n : ℕ) (small : n < 10 ^ 18) where
   number_no_name = digits_no_name (decimal n) (digits_decimal own n wide) (decimal_nonempty n wide)
 
 -- words in a row
-whole_word : (u w rest : List ℕ) → every plain w ≡ true → words_from u (w ++ rest) ≡ words_from (u ++ w) rest
+whole_word : (u w rest : List ℕ) → list_all plain w ≡ true → words_from u (w ++ rest) ≡ words_from (u ++ w) rest
 whole_word u [] rest h = rw append-nil
 whole_word u (b ∷ w) rest h =
-    let p = and_parts (plain b) (every plain w) h in
+    let p = and_parts (plain b) (list_all plain w) h in
     let e : blank b ≡ false = not_blank b p.0 in
     rw e (whole_word (u ++ (b ∷ [])) w rest p.1 ∙ ap (λ l. words_from l rest) (append_assoc u (b ∷ []) w))
   where
@@ -137,31 +137,31 @@ word_last (b ∷ w) h = ap words (sym (append-nil (b ∷ w))) ∙ whole_word [] 
 
 -- what the three kinds of lines say
 module _ (w : List ℕ) (name : is_name w ≡ true) where
-  pub shows_line : (n : ℕ) → n < 10 ^ 18 → (every clean (w ++ (codes " shows " ++ decimal n)) ≡ true) × (of_line (w ++ (codes " shows " ++ decimal n)) ≡ Some (shows w n))
+  pub shows_line : (n : ℕ) → n < 10 ^ 18 → (list_all clean (w ++ (codes " shows " ++ decimal n)) ≡ true) × (of_line (w ++ (codes " shows " ++ decimal n)) ≡ Some (shows w n))
   shows_line n small =
       let l = w ++ (codes " shows " ++ decimal n) in
       let a = name_word w name in
       let b = number_word n small in
-      let tidy : every clean l ≡ true = every_append clean w _ (plain-clean w a.bytes) (every_append clean (codes " shows ") (decimal n) refl (plain-clean (decimal n) b.bytes)) in
+      let tidy : list_all clean l ≡ true = all_append clean w _ (plain-clean w a.bytes) (all_append clean (codes " shows ") (decimal n) refl (plain-clean (decimal n) b.bytes)) in
       let cut : words l ≡ w ∷ codes "shows" ∷ decimal n ∷ [] = word_on w _ a ∙ ap (λ ws. w ∷ ws) (word_on (codes "shows") (decimal n) (record { some = omega arith; bytes = refl }) ∙ ap (λ ws. codes "shows" ∷ ws) (word_last (decimal n) b)) in
       let reads = number_reads n small in
       (tidy, clean_says l _ tidy (ap of_words cut ∙ rw (name, reads)))
 
-  pub fault_line : (every clean (w ++ codes " fault") ≡ true) × (of_line (w ++ codes " fault") ≡ Some (fault w))
+  pub fault_line : (list_all clean (w ++ codes " fault") ≡ true) × (of_line (w ++ codes " fault") ≡ Some (fault w))
   fault_line =
       let l = w ++ codes " fault" in
       let a = name_word w name in
-      let tidy : every clean l ≡ true = every_append clean w _ (plain-clean w a.bytes) refl in
+      let tidy : list_all clean l ≡ true = all_append clean w _ (plain-clean w a.bytes) refl in
       let cut : words l ≡ w ∷ codes "fault" ∷ [] = word_on w _ a in
       (tidy, clean_says l _ tidy (ap of_words cut ∙ rw name))
 
-  pub arrow_line_reads : (m n : ℕ) → m < 10 ^ 18 → n < 10 ^ 18 → (every clean (decimal m ++ (32 ∷ (w ++ (32 ∷ decimal n)))) ≡ true) × (of_line (decimal m ++ (32 ∷ (w ++ (32 ∷ decimal n)))) ≡ Some (arrow m w n))
+  pub arrow_line_reads : (m n : ℕ) → m < 10 ^ 18 → n < 10 ^ 18 → (list_all clean (decimal m ++ (32 ∷ (w ++ (32 ∷ decimal n)))) ≡ true) × (of_line (decimal m ++ (32 ∷ (w ++ (32 ∷ decimal n)))) ≡ Some (arrow m w n))
   arrow_line_reads m n small little =
       let l = decimal m ++ (32 ∷ (w ++ (32 ∷ decimal n))) in
       let a = name_word w name in
       let b = number_word m small in
       let c = number_word n little in
-      let tidy : every clean l ≡ true = every_append clean (decimal m) _ (plain-clean (decimal m) b.bytes) (every_append clean w _ (plain-clean w a.bytes) (plain-clean (decimal n) c.bytes)) in
+      let tidy : list_all clean l ≡ true = all_append clean (decimal m) _ (plain-clean (decimal m) b.bytes) (all_append clean w _ (plain-clean w a.bytes) (plain-clean (decimal n) c.bytes)) in
       let cut : words l ≡ decimal m ∷ w ∷ decimal n ∷ [] = word_on (decimal m) _ b ∙ ap (λ ws. decimal m ∷ ws) (word_on w (decimal n) a ∙ ap (λ ws. w ∷ ws) (word_last (decimal n) c)) in
       let no_name = number_no_name m small in
       let reads = number_reads m small in

@@ -1,11 +1,12 @@
 -- What is written reads as what was drawn. Assumes nothing.
-use Rattle.std.proofs.Common.{◌≡◌, ℕ, ◌+◌, ◌^◌, ◌<◌, ◌≤◌, Bool, true, false, List, [], ◌∷◌, ◌++◌, map, length, get_or, Some, Ok, codes, decimal, sym, refl, ap, ◌∙◌, subst, inl, inr, append_assoc, append-nil, arith, length-append}
-use Rattle.std.specs.List.{flat_map, AllByRecursion}
+use Rattle.std.proofs.Common.{◌≡◌, ℕ, ◌+◌, ◌^◌, ◌<◌, ◌≤◌, Bool, true, false, cond, not, eqb, List, [], ◌∷◌, ◌++◌, map, length, get_or, Some, Ok, codes, decimal, sym, refl, ap, ◌∙◌, subst, inl, inr, append_assoc, append-nil, arith, length-append}
+use Rattle.std.specs.List.{flat_map, list_all, AllByRecursion}
 use Rattle.std.specs.Str.{bytes_eq}
 use Rattle.std.proofs.ByRecursion.{All-get_or, All-map}
+use Rattle.std.proofs.lemmas.List.Folds.{prefix_len-append}
 use Rattle.std.proofs.lemmas.List.{get_or_at, set_at, length_push, length-map}
-use Rattle.std.proofs.lemmas.Bool.{cases_Bool, lt-ltb, le-ltb}
-use Rattle.grammar.specs.Line.{Said, arrow, fault, shows, is_name, of_line, every}
+use Rattle.std.proofs.lemmas.Bool.{cases_Bool, eqb-true, lt-ltb, le-ltb}
+use Rattle.grammar.specs.Line.{Said, arrow, fault, shows, is_name, of_line}
 use Rattle.drawing.specs.declared.finished.Drawing.{Drawing}
 use Rattle.drawing.specs.declared.shape.Arrow.{Arrow}
 use Rattle.drawing.specs.declared.shape.Event.{Event}
@@ -15,6 +16,7 @@ use Rattle.drawing.specs.Fine.{Apart, GoesBy, ShortSign, no_arrow}
 use Rattle.drawing.specs.Lines.{lines}
 use Rattle.drawing.specs.Reads.{put_said, if_read, read_from, drafting, completed, reading}
 use Rattle.drawing.proofs.Fines.{all_from, place_last}
+use Rattle.drawing.proofs.Places.{as_long}
 use Rattle.drawing.proofs.Newlines.{lines_cut}
 use Rattle.drawing.proofs.Reading.{good_line}
 use Rattle.notation.specs.Written.{event_lines, all_events, arrow_line, written}
@@ -39,20 +41,19 @@ goes_on xs ys d e f g h =
           (b.0, ap (λ l. read_from n d (lines l)) (append_assoc xs ys tail) ∙ a.1 ∙ b.1);
     }
 
-goes_line : (l : List ℕ) (s : Said) (d e : Drafted) → every clean l ≡ true → of_line l ≡ Some s → put d s ≡ Some e → Goes (l ++ codes "\n") d e
+goes_line : (l : List ℕ) (s : Said) (d e : Drafted) → list_all clean l ≡ true → of_line l ≡ Some s → put d s ≡ Some e → Goes (l ++ codes "\n") d e
 goes_line l s d e tidy says adds =
     record {
       leads = λ n tail.
-          (n + 1, ap (λ m. read_from n d (lines m)) (append_assoc l (codes "\n") tail) ∙ good_line n d (l ++ (10 ∷ tail)) l (lines tail) (lines_cut l tail (one_line l tidy)) e (ap (put_said d) says ∙ adds));
+          (n + 1, ap (λ m. read_from n d (lines m)) (append_assoc l (codes "\n") tail) ∙ ap (read_from n d) (lines_cut l tail (one_line l tidy)) ∙ good_line n d l (lines tail) e (ap (put_said d) says ∙ adds));
     }
 
 -- where a name is found
 place_front : (xs ys : List (List ℕ)) (w : List ℕ) → place (xs ++ ys) w ≡ length xs → place xs w ≡ length xs
-place_front [] ys w h = refl
-place_front (x ∷ xs) ys w h =
-    elim (cases_Bool (bytes_eq x w)) [
-      | inl e ↦ absurd (omega (arith, rw e at h))
-      | inr e ↦ rw e (omega (arith, place_front xs ys w (omega (arith, rw e at h))))
+place_front xs ys w h =
+    elim (cases_Bool (eqb (place xs w) (length xs))) [
+      | inl e ↦ eqb-true (place xs w) (length xs) e
+      | inr e ↦ ap (λ b. cond b (length xs + place ys w) (place xs w)) (sym e) ∙ sym (prefix_len-append (λ x. not (bytes_eq x w)) xs ys) ∙ h
     ]
 
 -- what is said of an event when its lines are read
@@ -148,7 +149,7 @@ round_trip d =
     let ys = (drawn d).ways in
     let names = all_from (λ w. is_name w ≡ true) ws [] d.spelled in
     let signs = All-map (λ k. k.sign < 10 ^ 18) kind (drafted d.draft).kinds (all_from ShortSign (drafted d.draft).kinds unsaid d.signs) in
-    let long : length ws ≡ length ks = d.level ∙ sym (length-map (drafted d.draft).kinds kind) in
+    let long : length ws ≡ length ks = as_long d.draft ∙ sym (length-map (drafted d.draft).kinds kind) in
     let events = goes_events [] ws [] ks refl long d.few names signs d.apart in
     let arrows = goes_arrows ws (map settled ks) names d.apart d.few [] ys (all_from (GoesBy (length ws)) ys no_arrow d.ways) in
     let all = goes_on (all_events ws ks) (flat_map (arrow_line ws) ys) _ _ _ events arrows in

@@ -5,7 +5,7 @@ use Rattle.sets.specs.Sets.{member}
 use Rattle.plant.specs.Plant.{Plant, bad, good, either, neither, May, Knows}
 use Rattle.observer.specs.declared.memory.Memory.{Memory}
 use Rattle.observer.specs.declared.words.Word.{Word}
-use Rattle.observer.specs.declared.words.Word.TheVariants.{Bad, Good, Either, Neither, Refused}
+use Rattle.observer.specs.declared.words.Word.TheVariants.{Bad, Good, Either, Neither}
 use Rattle.observer.specs.Marks.{holds, Comes, Right}
 use Rattle.observer.specs.Words.{word_of, word_known, Said, Tells, SomeMarked}
 
@@ -16,7 +16,6 @@ tells_same to back Bad t = (to true t.0, λ q. t.1 (back false q))
 tells_same to back Good t = (to false t.0, λ q. t.1 (back true q))
 tells_same to back Either t = (to true t.0, to false t.1)
 tells_same to back Neither t = (λ q. t.0 (back true q), λ q. t.1 (back false q))
-tells_same to back (Refused f) t = t
 
 pub tells_said : (p : Plant) (os : List ℕ) (w : Word) → Tells (May p os) w → Said p os w
 unfolding Tells word_known Knows
@@ -24,7 +23,6 @@ tells_said p os Bad t = (bad, refl, t)
 tells_said p os Good t = (good, refl, t)
 tells_said p os Either t = (either, refl, t)
 tells_said p os Neither t = (neither, refl, t)
-tells_said p os (Refused f) t = absurd t
 
 -- marks that are right tell what is known
 pub right_said : (p : Plant) (os : List ℕ) (m : Memory) (w : Word) → Tells (SomeMarked m) w → Right p os m → Said p os w
@@ -50,7 +48,6 @@ tells_word f Bad t = rw (t.0, not-true (f false) t.1) refl
 tells_word f Good t = rw (t.0, not-true (f true) t.1) refl
 tells_word f Either t = rw (t.0, t.1) refl
 tells_word f Neither t = rw (not-true (f true) t.0, not-true (f false) t.1) refl
-tells_word f (Refused k) t = absurd t
 
 -- the word for two sets, by whether they are empty
 pub sets_tell : (m : Memory) (g b : Bool)

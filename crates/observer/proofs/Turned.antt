@@ -1,16 +1,13 @@
 -- What is known where no rule turns a sign away, and where one does. Assumes nothing.
-use Rattle.std.proofs.Common.{◌≡◌, ℕ, zero, suc, ◌*◌, ◌≤◌, eqb, leb, List, length, Some, None, Ok, Err, Option, refl, arith}
-use Rattle.std.proofs.lemmas.Bool.{eqb-true, leb-true}
+use Rattle.std.proofs.Common.{◌≡◌, ℕ, suc, ◌+◌, ◌*◌, ◌%◌, ◌<◌, ◌≤◌, eqb, leb, ltb, cond, List, [], ◌∷◌, length, Some, None, Ok, Err, Option, refl, ⊎_elim, arith}
+use Rattle.std.specs.List.{position, position_or_len}
+use Rattle.std.proofs.lemmas.Bool.Decides.{nat_tests}
+use Rattle.std.proofs.lemmas.Bool.{cases_lt, eqb-true, leb-true, lt-ltb, le-ltb}
 use Rattle.plant.specs.declared.parts.Refusal.{Refusal}
 use Rattle.plant.specs.Checked.{checked}
-use Rattle.plant.specs.Numbers.{plant_in}
-use Rattle.plant.specs.Plant.{Plant}
-use Rattle.plant.specs.Refusals.{number_of, refusal}
-use Rattle.plant.proofs.Valid.{or_else_none, passed, numbered}
-use Rattle.observer.specs.declared.words.Word.{Word}
-use Rattle.observer.specs.declared.words.Word.TheVariants.{Refused}
-use Rattle.observer.specs.Entry.{WordSays}
-use Rattle.observer.specs.Refusals.{follow_refusal, marks_refusal, number, sign_refusal}
+use Rattle.plant.specs.Refusals.{first_over, refusal}
+use Rattle.plant.proofs.Valid.{or_else_none, passed}
+use Rattle.observer.specs.Refusals.{follow_refusal, marks_refusal, sign_refusal}
 
 pub checked_ok : (o : Option Refusal) → Ok tt ≡ checked o → o ≡ None
 checked_ok None e = refl
@@ -36,15 +33,16 @@ module _ (n : ℕ) (xs es m : List ℕ) (o : ℕ) where
         sign = leb-true o 255 (passed (leb o 255) _ _ memory.1).0;
       }
 
--- a refusal says its number and leaves the memory
-refused_says : (n : ℕ) (p : Plant) (m : List ℕ) (o k : ℕ) → 1 ≤ k → WordSays k n p m o (Refused k) m
-unfolding WordSays
-refused_says n p m o zero h = absurd (omega arith)
-refused_says n p m o (suc k) h = (refl, refl)
+-- the first mark above 1, counted from k
+above_at : (xs : List ℕ) (k : ℕ) → first_over (2 ∷ []) k xs ≡ cond (ltb (position_or_len (λ x. ltb 1 x) xs) (length xs)) (Some (k + position_or_len (λ x. ltb 1 x) xs)) None
+unfolding first_over
+above_at [] k = refl
+above_at (x ∷ xs) k =
+    let place : k % 1 ≡ 0 = omega arith in
+    ⊎_elim
+    (λ h. let low : x ≤ 1 = omega (arith, h) in rw (place, lt-ltb x 2 h, le-ltb 1 x low, above_at xs (suc k)) (grind (arith, nat_tests)))
+    (λ h. let high : 1 < x = omega (arith, h) in rw (place, le-ltb x 2 h, lt-ltb 1 x high) (grind (arith, nat_tests)))
+    (cases_lt x 2)
 
-pub says_refused : (f : Option Refusal) (r : Refusal) (k : ℕ) (n : ℕ) (p : Plant) (m : List ℕ) (o : ℕ) → f ≡ Some r → k ≡ number_of r → WordSays (number f) n p m o (Refused k) m
-says_refused f r k n p m o e q = rw (e, q) (refused_says n p m o (number_of r) (numbered r))
-
--- without one the entry says what is said over the plant that the numbers make
-pub says_passed : (f : Option Refusal) (k n : ℕ) (ys xs ds es m : List ℕ) (o : ℕ) (w : Word) (m₁ : List ℕ) → f ≡ None → k ≡ n → ys ≡ xs → ds ≡ es → WordSays 0 k (plant_in ys ds) m o w m₁ → WordSays (number f) n (plant_in xs es) m o w m₁
-says_passed f k n ys xs ds es m o w m₁ e q r s says = rw (e, ← q, ← r, ← s) says
+pub first_above : (xs : List ℕ) → first_over (2 ∷ []) 0 xs ≡ position (λ x. ltb 1 x) xs
+first_above xs = let z : 0 + position_or_len (λ x. ltb 1 x) xs ≡ position_or_len (λ x. ltb 1 x) xs = omega arith in rw (above_at xs 0, z) refl

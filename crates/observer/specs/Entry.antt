@@ -5,7 +5,6 @@ use Rattle.plant.specs.Plant.{Plant, Run, seen, faulty}
 use Rattle.plant.specs.Theorems.{Within}
 use Rattle.observer.specs.declared.memory.Memory.{Memory}
 use Rattle.observer.specs.declared.words.Word.{Word}
-use Rattle.observer.specs.declared.words.Word.TheVariants.{Refused}
 use Rattle.observer.specs.Words.{word_of, Said}
 use Rattle.observer.specs.Refusals.{marks_refusal}
 
@@ -36,18 +35,17 @@ unfoldable pub some_marked : (states : ℕ) → List ℕ → Bool → ℕ → Bo
 some_marked n m b zero = false
 some_marked n m b (suc t) = marked n m t b || some_marked n m b t
 
--- by the number of the refusal: the memory left has just the marks to which the sign leads, and the word is read off it; or nothing is changed
-unfoldable pub WordSays : (refusal : ℕ) → (states : ℕ) → Plant → (memory : List ℕ) → (sign : ℕ) → Word → (memory₁ : List ℕ) → Type 0
-WordSays zero n p m o r m₁ =
+-- the memory left has just the marks to which the sign leads, and the word is read off it
+unfoldable pub WordSays : (states : ℕ) → Plant → (memory : List ℕ) → (sign : ℕ) → Word → (memory₁ : List ℕ) → Type 0
+WordSays n p m o r m₁ =
     (length m₁ ≡ 2 * n) × (marks_ok m₁ ≡ true)
     × ((u : ℕ) (b : Bool) → u < n → marked n m₁ u b ≡ true → LeadsTo n p m o u b) × ((u : ℕ) (b : Bool) → u < n → LeadsTo n p m o u b → marked n m₁ u b ≡ true)
     × (r ≡ word_of (some_marked n m₁ false n) (some_marked n m₁ true n))
-WordSays (suc f) n p m o r m₁ = (r ≡ Refused (suc f)) × (m₁ ≡ m)
 
 -- followed from the beginning: a memory and a word for each sign, the latest sign first
 pub data Followed (n : ℕ) (p : Plant) : List ℕ → List ℕ → Word → Type 0 where
-  begun : (m m₁ : List ℕ) (w : Word) → WordSays 0 n p m 0 w m₁ → Followed n p [] m₁ w
-  sign : (os : List ℕ) (m m₁ : List ℕ) (w v : Word) (o : ℕ) → 1 ≤ o → Followed n p os m w → WordSays 0 n p m o v m₁ → Followed n p (o ∷ os) m₁ v
+  begun : (m m₁ : List ℕ) (w : Word) → WordSays n p m 0 w m₁ → Followed n p [] m₁ w
+  sign : (os : List ℕ) (m m₁ : List ℕ) (w v : Word) (o : ℕ) → 1 ≤ o → Followed n p os m w → WordSays n p m o v m₁ → Followed n p (o ∷ os) m₁ v
 
 -- then the word is what is known after the signs
 unfoldable pub FollowedRight : Type 0
@@ -55,4 +53,4 @@ FollowedRight = (n : ℕ) (p : Plant) (os m : List ℕ) (w : Word) → Within n 
 
 -- a memory that was left is taken with the next sign
 unfoldable pub LeftTaken : Type 0
-LeftTaken = (n : ℕ) (p : Plant) (m : List ℕ) (o : ℕ) (w : Word) (m₁ : List ℕ) → WordSays 0 n p m o w m₁ → marks_refusal n m₁ ≡ None
+LeftTaken = (n : ℕ) (p : Plant) (m : List ℕ) (o : ℕ) (w : Word) (m₁ : List ℕ) → WordSays n p m o w m₁ → marks_refusal n m₁ ≡ None

@@ -3,7 +3,7 @@ use Rattle.std.specs.Prelude.{ℕ, ◌*◌, cond, List, [], ◌∷◌, length, S
 use Rattle.std.specs.Option.{option_map}
 use Rattle.plant.specs.declared.parts.Refusal.{Refusal}
 use Rattle.plant.specs.declared.parts.Refusal.TheVariants.{Memory}
-use Rattle.plant.specs.Refusals.{first_over, number_of, or_else, refusal}
+use Rattle.plant.specs.Refusals.{first_over, or_else, refusal}
 
 -- 5: a memory that has not two marks for each state, at its length; a mark above 1, at its place
 unfoldable pub marks_refusal : (states : ℕ) (memory : List ℕ) → Option Refusal
@@ -16,8 +16,3 @@ sign_refusal o = cond (nat_le o 255) None (Some (Memory 0))
 -- the first rule that applies; the memory is looked at also where sign 0 begins anew
 abbrev pub follow_refusal : (states : ℕ) (arrows events memory : List ℕ) (sign : ℕ) → Option Refusal
 follow_refusal n xs es m o = or_else (refusal n xs es) (or_else (marks_refusal n m) (sign_refusal o))
-
--- its number, 0 where there is none
-abbrev pub number : Option Refusal → ℕ
-number None = 0
-number (Some r) = number_of r

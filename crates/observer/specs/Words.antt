@@ -1,8 +1,8 @@
 -- The word for what may be, and what it says is known. These are definitions and assume nothing.
-use Rattle.std.specs.Prelude.{◌≡◌, ℕ, ◌≤◌, Bool, true, false, List, [], ◌∷◌}
+use Rattle.std.specs.Prelude.{◌≡◌, ℕ, ◌≤◌, Bool, true, false, List, [], ◌∷◌, codes}
 use Rattle.plant.specs.Plant.{Plant, Known, bad, good, either, neither, Knows}
 use Rattle.observer.specs.declared.words.Word.{Word}
-use Rattle.observer.specs.declared.words.Word.TheVariants.{Bad, Good, Either, Neither, Refused}
+use Rattle.observer.specs.declared.words.Word.TheVariants.{Bad, Good, Either, Neither}
 use Rattle.observer.specs.declared.memory.Memory.{Memory}
 use Rattle.observer.specs.Marks.{Has, Right}
 
@@ -12,12 +12,18 @@ word_of true false = Good
 word_of false true = Bad
 word_of false false = Neither
 
+-- how it is written
+abbrev pub spoken : Word → List ℕ
+spoken Bad = codes "bad"
+spoken Good = codes "good"
+spoken Either = codes "either"
+spoken Neither = codes "neither"
+
 unfoldable pub word_known : Word → Known → Type 0
 word_known Bad k = k ≡ bad
 word_known Good k = k ≡ good
 word_known Either k = k ≡ either
 word_known Neither k = k ≡ neither
-word_known (Refused f) k = ⊥
 
 -- the word is what is known after the signs
 abbrev pub Said : Plant → List ℕ → Word → Type 0
@@ -29,7 +35,6 @@ Tells P Bad = P true × (P false → ⊥)
 Tells P Good = P false × (P true → ⊥)
 Tells P Either = P true × P false
 Tells P Neither = (P true → ⊥) × (P false → ⊥)
-Tells P (Refused f) = ⊥
 
 -- some state has a mark
 abbrev pub SomeMarked : Memory → Bool → Type 0

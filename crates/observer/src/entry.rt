@@ -1,28 +1,21 @@
 // The entry: one sign followed over numbers that are lent. It asks nothing of its caller.
-ghost use Rattle.std.specs.Prelude.{◌≡◌, ℕ, ◌*◌, List, [], ◌∷◌, length};
-ghost use Rattle.plant.specs.Checked.{checked};
+ghost use Rattle.std.specs.Prelude.{◌≡◌, ℕ, ◌*◌, ◌<◌, length, nat_lt, position};
+ghost use Rattle.plant.specs.Checked.{Answered, behaviour, checked};
 ghost use Rattle.plant.specs.Model.{model};
-ghost use Rattle.plant.specs.Numbers.{plant_in};
-ghost use Rattle.plant.specs.Refusals.{first_over};
 ghost use Rattle.observer.specs.Entry.{FollowedRight, LeadsTo, WordSays};
 ghost use Rattle.observer.specs.Marks.{Exactly};
-ghost use Rattle.observer.specs.Refusals.{follow_refusal, marks_refusal, number, sign_refusal};
+ghost use Rattle.observer.specs.Refusals.{follow_refusal, marks_refusal, sign_refusal};
 
 use crate::marks;
 use crate::memory::Memory;
 use crate::words::Word;
-use plant::{Plant, Refusal};
+use plant::{Numbers, Plant, Refusal};
 
-// The index of the first mark above 1.
-fn first_above_one(marks: &[u8]) -> Option<u64>
-    ensures { result ≡ first_over (2 ∷ []) 0 marks.now }
+// The place of the first mark above 1.
+fn first_above_one(marks: &[u8]) -> Option<usize>
+    ensures { result ≡ position (λ x. nat_lt 1 x) marks.now }
 {
-    for (i, mark) in marks.iter().enumerate() {
-        if *mark > 1 {
-            return Some(i as u64);
-        }
-    }
-    None
+    marks.iter().position(|mark| *mark > 1)
 }
 
 // Not two marks for each state, or a mark above 1.
@@ -34,7 +27,7 @@ fn check_marks(states: u64, marks: &[u8]) -> Result<(), Refusal>
         return Err(Refusal::Memory(length));
     }
     match first_above_one(marks) {
-        Some(place) => Err(Refusal::Memory(place)),
+        Some(place) => Err(Refusal::Memory(place as u64)),
         None => Ok(()),
     }
 }
@@ -50,17 +43,11 @@ fn check_sign(sign: u64) -> Result<(), Refusal>
 }
 
 // Whether a sign can be followed over these numbers: an error is the first rule that turns them away.
-pub fn check(
-    states: u64,
-    arrows: &[u16],
-    events: &[u16],
-    memory: &[u8],
-    sign: u64,
-) -> Result<(), Refusal>
-    ensures { result ≡ checked (follow_refusal states arrows.now events.now memory.now sign) }
+pub fn check(numbers: Numbers, memory: &[u8], sign: u64) -> Result<(), Refusal>
+    ensures { result ≡ checked (follow_refusal numbers.entry.states numbers.entry.arrows.now numbers.entry.events.now memory.now sign) }
 {
-    plant::check(states, arrows, events)?;
-    check_marks(states, memory)?;
+    plant::check(numbers)?;
+    check_marks(numbers.states, memory)?;
     check_sign(sign)
 }
 
@@ -80,33 +67,19 @@ fn next(plant: Plant, marks: &[u8], sign: u8) -> Memory
 // The sign followed, the memory being of the plant's size.
 fn go_on(plant: Plant, memory: &mut [u8], sign: u8) -> Word
     requires { length memory.old ≡ 2 * plant.states }
-    ensures { WordSays 0 plant.entry.states (model plant.entry) memory.old sign result memory.new }
+    ensures { WordSays plant.entry.states (model plant.entry) memory.old sign result memory.new }
 {
     let marks = next(plant, memory, sign);
     marks::write(marks, memory, plant.states() as usize);
     marks.word()
 }
 
-fn answer<'a>(
-    states: u64,
-    arrows: &'a [u16],
-    events: &'a [u16],
-    memory: &mut [u8],
-    sign: u64,
-) -> Word
-    ensures says { WordSays (number (follow_refusal states arrows.now events.now memory.old sign)) states (plant_in arrows.now events.now) memory.old sign result memory.new }
-    ensures known { FollowedRight }
-{
-    match check(states, arrows, events, memory, sign) {
-        Ok(()) => go_on(Plant::new(states, arrows, events), memory, sign as u8),
-        Err(refusal) => Word::Refused(refusal.number()),
-    }
-}
-
 // What is known after one sign more: the memory is what may be, two marks for each state, and is left as what may be then. Sign 0 begins anew.
-pub fn follow(states: u64, arrows: &[u16], events: &[u16], memory: &mut [u8], sign: u64) -> Word
-    ensures says { WordSays (number (follow_refusal states arrows.now events.now memory.old sign)) states (plant_in arrows.now events.now) memory.old sign result memory.new }
+// An error is the first rule that turns the numbers away, and then the memory stays as it was.
+pub fn follow(numbers: Numbers, memory: &mut [u8], sign: u64) -> Result<Word, Refusal>
+    ensures says { Answered (follow_refusal numbers.entry.states numbers.entry.arrows.now numbers.entry.events.now memory.old sign) (λ w. WordSays numbers.entry.states (behaviour numbers.entry) memory.old sign w memory.new) (memory.new ≡ memory.old) result }
     ensures known { FollowedRight }
 {
-    answer(states, arrows, events, memory, sign)
+    check(numbers, memory, sign)?;
+    Ok(go_on(Plant::new(numbers), memory, sign as u8))
 }

@@ -13,8 +13,8 @@ fn read_set(marks: &[u8]) -> StateSet
     ensures { (s : ℕ) → member result.bits s ≡ (slice_index marks.now s == 1) }
 {
     let mut set = StateSet::empty();
-    for s in 0..marks.len() {
-        if marks[s] == 1 {
+    for (s, mark) in marks.iter().enumerate() {
+        if *mark == 1 {
             set = set.with(s as u16);
         }
     }
@@ -26,8 +26,8 @@ fn write_set(set: StateSet, marks: &mut [u8])
     requires { length marks.old ≤ 32 }
     ensures { (s : ℕ) → s < length marks.new → slice_index marks.new s ≡ bit (member set.bits s) }
 {
-    for s in 0..marks.len() {
-        marks[s] = if set.contains(s as u16) { 1 } else { 0 };
+    for (s, mark) in marks.iter_mut().enumerate() {
+        *mark = u8::from(set.contains(s as u16));
     }
 }
 

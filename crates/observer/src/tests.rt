@@ -1,6 +1,6 @@
 // A worked plant through the entry and through a follower, and each rule at its last acceptable value, one past it, and where a later rule is broken too.
 use super::{Follower, Word, check, follow};
-use plant::Plant;
+use plant::{Numbers, Plant, Refusal};
 use std::process::Abort;
 use std::test::Fail;
 
@@ -9,8 +9,16 @@ const ARROWS: [u16; 12] = [0, 0, 1, 1, 1, 2, 2, 2, 2, 0, 1, 0];
 
 const EVENTS: [u16; 6] = [0, 1, 1, 0, 2, 0];
 
+fn worked(states: u64) -> Numbers<'static> {
+    Numbers {
+        states,
+        arrows: &ARROWS,
+        events: &EVENTS,
+    }
+}
+
 fn says(rt: &impl Abort, memory: &mut [u8], sign: u64, word: Word) {
-    assert_eq!(rt; follow(3, &ARROWS, &EVENTS, memory, sign) == word, true);
+    assert_eq!(rt; follow(worked(3), memory, sign) == Ok(word), true);
 }
 
 #[test]
@@ -36,8 +44,8 @@ fn closes_first(rt: HostRuntime) {
 
 #[test]
 fn follower(rt: HostRuntime) -> Result<(), Fail> {
-    if let Ok(()) = plant::check(3, &ARROWS, &EVENTS) {
-        let mut follower = Follower::new(Plant::new(3, &ARROWS, &EVENTS));
+    if let Ok(plant) = Plant::try_from(worked(3)) {
+        let mut follower = Follower::new(plant);
         assert_eq!(rt; follower.word() == Word::Either, true);
         assert_eq!(rt; follower.sign(1) == Word::Either, true);
         assert_eq!(rt; follower.sign(2) == Word::Bad, true);
@@ -49,28 +57,26 @@ fn follower(rt: HostRuntime) -> Result<(), Fail> {
     Err(Fail::new("the plant is refused"))
 }
 
-// The number and the place of a refusal over the worked plant; 0 and 0 where there is none.
-fn told(states: u64, memory: &[u8], sign: u64) -> (u64, u64) {
-    match check(states, &ARROWS, &EVENTS, memory, sign) {
-        Ok(()) => (0, 0),
-        Err(refusal) => (refusal.number(), refusal.place()),
-    }
+// What a sign is turned away by over the worked plant.
+fn told(states: u64, memory: &[u8], sign: u64) -> Result<(), Refusal> {
+    check(worked(states), memory, sign)
 }
 
 #[test]
 fn refusals(rt: HostRuntime) {
-    assert_eq!(rt; told(3, &[1; 6], 255), (0, 0));
-    assert_eq!(rt; told(3, &[1; 5], 0), (5, 5));
-    assert_eq!(rt; told(3, &[2; 7], 256), (5, 7));
-    assert_eq!(rt; told(3, &[0, 1, 1, 1, 2, 3], 256), (5, 4));
-    assert_eq!(rt; told(3, &[0; 6], 256), (5, 0));
-    assert_eq!(rt; told(0, &[2; 5], 256), (1, 0));
-    assert_eq!(rt; told(2, &[2; 5], 256), (3, 5));
+    assert!(rt; told(3, &[1; 6], 255) == Ok(()));
+    assert!(rt; told(3, &[1; 5], 0) == Err(Refusal::Memory(5)));
+    assert!(rt; told(3, &[2; 7], 256) == Err(Refusal::Memory(7)));
+    assert!(rt; told(3, &[0, 1, 1, 1, 2, 3], 256) == Err(Refusal::Memory(4)));
+    assert!(rt; told(3, &[0; 6], 256) == Err(Refusal::Memory(0)));
+    assert!(rt; told(0, &[2; 5], 256) == Err(Refusal::States(0)));
+    assert!(rt; told(2, &[2; 5], 256) == Err(Refusal::Arrows(5)));
 }
 
 #[test]
 fn refused_unchanged(rt: HostRuntime) {
     let mut memory = [0, 0, 0, 0, 0, 2];
-    says(&rt, &mut memory, 0, Word::Refused(5));
+    let refused = follow(worked(3), &mut memory, 0);
+    assert_eq!(rt; refused == Err(Refusal::Memory(5)), true);
     assert_eq!(rt; memory, [0, 0, 0, 0, 0, 2]);
 }

@@ -1,17 +1,30 @@
 // What is said after signs.
-ghost use Rattle.std.specs.Prelude.{◌≡◌};
-ghost use Rattle.observer.specs.Words.{word_of};
+ghost use Rattle.std.specs.Prelude.{◌≡◌, Some};
+ghost use Rattle.observer.specs.Words.{spoken, word_of};
+
+use std::fmt;
 
 // Bad: some run shows the signs, and all that do have a fault. Good: some does, and none that does has one.
 // Either: some that does has one and some has none. Neither: no run shows them.
-// Refused: nothing was followed, by the rule of this number.
 #[derive(Clone, Copy, PartialEq, Eq)]
 pub enum Word {
     Bad,
     Good,
     Either,
     Neither,
-    Refused(u64),
+}
+
+impl fmt::Display for Word {
+    ghost output = { λ w. Some (spoken w) };
+
+    fn fmt<W: fmt::Write>(&self, f: &mut fmt::Formatter<W>) -> fmt::Result {
+        match *self {
+            Word::Bad => write!(f, "bad"),
+            Word::Good => write!(f, "good"),
+            Word::Either => write!(f, "either"),
+            Word::Neither => write!(f, "neither"),
+        }
+    }
 }
 
 // The word for whether some run without a fault, and whether some run with one, may have happened.

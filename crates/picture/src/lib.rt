@@ -8,5 +8,5 @@ mod tints;
 
 pub use edges::{Edge, Tint};
 pub use runs::Lasso;
-pub use texts::write;
+pub use texts::Picture;
 pub use tints::{plain, tinted};

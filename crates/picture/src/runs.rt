@@ -1,4 +1,8 @@
 // Which arrows a run goes along. A row has only events: where several arrows fit, those are taken that lead to the run's end.
+ghost use Rattle.std.specs.Prelude.{◌≡◌, map};
+ghost use Rattle.picture.specs.Pictures.{arrow_of};
+
+use crate::edges::{Edge, Tint};
 use drawing::Arrow;
 use sets::StateSet;
 use std::alloc::{AllocError, Global};
@@ -22,101 +26,114 @@ fn add(states: StateSet, state: u64) -> StateSet {
     }
 }
 
-// Where the event leads from these states.
-fn after(arrows: &[Arrow], states: StateSet, event: u16) -> StateSet {
+fn only(state: u64) -> StateSet {
+    add(StateSet::empty(), state)
+}
+
+// Where the event leads from these states, if arrows go as the closure says.
+fn led<F: Fn(Arrow) -> (u64, u64)>(
+    edges: &[Edge],
+    states: StateSet,
+    event: u16,
+    goes: F,
+) -> StateSet
+    requires { F.IsAlwaysCallable goes }
+{
     let mut next = StateSet::empty();
-    for a in arrows {
-        if a.event == event as usize && has(states, a.from) {
-            next = add(next, a.to);
+    for edge in edges {
+        let (from, to) = goes(edge.arrow);
+        if edge.arrow.event == event as usize && has(states, from) {
+            next = add(next, to);
         }
     }
     next
 }
 
+// Where the event leads from these states.
+fn after(edges: &[Edge], states: StateSet, event: u16) -> StateSet {
+    led(edges, states, event, |arrow| (arrow.from, arrow.to))
+}
+
 // From where the event leads to one of these states.
-fn before(arrows: &[Arrow], states: StateSet, event: u16) -> StateSet {
-    let mut previous = StateSet::empty();
-    for a in arrows {
-        if a.event == event as usize && has(states, a.to) {
-            previous = add(previous, a.from);
-        }
-    }
-    previous
+fn before(edges: &[Edge], states: StateSet, event: u16) -> StateSet {
+    led(edges, states, event, |arrow| (arrow.to, arrow.from))
 }
 
 // Where a row leads from a state.
-fn ends(arrows: &[Arrow], from: u64, row: &[u16]) -> StateSet {
-    let mut states = add(StateSet::empty(), from);
-    for i in (0..row.len()).rev() {
-        states = after(arrows, states, row[i]);
-    }
-    states
+fn ends(edges: &[Edge], from: u64, row: &[u16]) -> StateSet {
+    row.iter()
+        .rev()
+        .fold(only(from), |states, event| after(edges, states, *event))
 }
 
 // A state that the run leads to and the way round leads back to.
-fn knot(arrows: &[Arrow], lasso: Lasso) -> Option<u64> {
-    let reached = ends(arrows, 0, lasso.run);
-    for state in 0..32u64 {
-        if has(reached, state) && has(ends(arrows, state, lasso.round), state) {
-            return Some(state);
-        }
-    }
-    None
+fn knot(edges: &[Edge], lasso: Lasso) -> Option<u64> {
+    let reached = ends(edges, 0, lasso.run);
+    (0..32u64).find(|state| has(reached, *state) && has(ends(edges, *state, lasso.round), *state))
 }
 
 // For each number of events, the latest of a row, the states from which they lead to that state.
 fn ways_to(
     heap: Global,
-    arrows: &[Arrow],
+    edges: &[Edge],
     row: &[u16],
     to: u64,
 ) -> Result<Vec<StateSet>, AllocError> {
-    let mut states = add(StateSet::empty(), to);
+    let mut states = only(to);
     let mut ways = Vec::new(heap);
     for event in row {
         ways.push(states)?;
-        states = before(arrows, states, *event);
+        states = before(edges, states, *event);
     }
     Ok(ways)
 }
 
-// Marks the first arrow of that event from a state to one of those, and tells where it leads.
-fn mark_step(arrows: &[Arrow], from: u64, event: u16, to: StateSet, marks: &mut [bool]) -> u64 {
-    for (i, a) in arrows.iter().enumerate() {
-        if a.from == from && a.event == event as usize && has(to, a.to) {
-            if i < marks.len() {
-                marks[i] = true;
-            }
-            return a.to;
-        }
-    }
-    from
+// Tints the first arrow of that event from a state to one of those, and tells where it leads.
+fn mark_step(edges: &mut [Edge], from: u64, event: u16, to: StateSet, run: Tint) -> u64
+    ensures { map arrow_of edges.new ≡ map arrow_of edges.old }
+{
+    let fits = |edge: &Edge| {
+        let arrow = edge.arrow;
+        arrow.from == from && arrow.event == event as usize && has(to, arrow.to)
+    };
+    let Some(i) = edges.iter().position(fits) else {
+        return from;
+    };
+    edges[i].tint = edges[i].tint.with(run);
+    edges[i].arrow.to
 }
 
-// Marks the arrows of a run between two states.
-fn mark_run(arrows: &[Arrow], from: u64, row: &[u16], ways: &[StateSet], marks: &mut [bool]) {
+// Tints the arrows of a run between two states.
+fn mark_run(
+    heap: Global,
+    edges: &mut [Edge],
+    from: u64,
+    row: &[u16],
+    to: u64,
+    run: Tint,
+) -> Result<(), AllocError>
+    ensures { map arrow_of edges.new ≡ map arrow_of edges.old }
+{
+    let ways = ways_to(heap, edges, row, to)?;
     let mut at = from;
-    for i in (0..row.len()).rev() {
-        if i < ways.len() {
-            at = mark_step(arrows, at, row[i], ways[i], marks);
-        }
+    for (event, way) in row.iter().zip(&ways).rev() {
+        at = mark_step(edges, at, *event, *way, run);
     }
+    Ok(())
 }
 
-// For each arrow whether the run or its way round goes along it.
-pub fn marks_of(heap: Global, arrows: &[Arrow], lasso: Lasso) -> Result<Vec<bool>, AllocError> {
-    let mut marks = vec![in heap; false; arrows.len()]?;
-    if let Some(end) = knot(arrows, lasso) {
-        let ways = ways_to(heap, arrows, lasso.run, end)?;
-        mark_run(arrows, 0, lasso.run, ways.as_slice(), marks.as_mut_slice());
-        let ways = ways_to(heap, arrows, lasso.round, end)?;
-        mark_run(
-            arrows,
-            end,
-            lasso.round,
-            ways.as_slice(),
-            marks.as_mut_slice(),
-        );
+// Tints each arrow that the run or its way round goes along.
+pub(crate) fn mark(
+    heap: Global,
+    edges: &mut [Edge],
+    lasso: Lasso,
+    run: Tint,
+) -> Result<(), AllocError>
+    ensures { map arrow_of edges.new ≡ map arrow_of edges.old }
+{
+    if let Some(end) = knot(edges, lasso) {
+        mark_run(heap, edges, 0, lasso.run, end, run)?;
+        mark_run(heap, edges, end, lasso.round, end, run)?;
     }
-    Ok(marks)
+    Ok(())
 }

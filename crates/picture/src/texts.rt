@@ -1,12 +1,10 @@
 // The lines of a picture.
-ghost use Rattle.std.specs.Prelude.{◌≡◌, ◌++◌, map, IfOk, Some, string_bytes, OnOk, slice_index_or};
-ghost use Rattle.std.specs.List.{flat_map};
+ghost use Rattle.std.specs.Prelude.{◌≡◌, map, Some, string_bytes, slice_index_or};
 ghost use Rattle.drawing.specs.Drawn.{kind};
-ghost use Rattle.picture.specs.Pictures.{colour, edge_line, head_lines, label, no_kind, picture, style};
+ghost use Rattle.picture.specs.Pictures.{edge_line, label, no_kind, picture, style};
 
-use crate::edges::{Edge, Tint};
+use crate::edges::Edge;
 use drawing::Event;
-use std::alloc::Global;
 use std::fmt;
 use wording::name_of;
 
@@ -41,80 +39,72 @@ fn style_of(silent: bool, fault: bool) -> &'static str
     }
 }
 
-fn colour_of(tint: Tint) -> &'static str
-    ensures { result.now ≡ colour tint }
-{
-    match tint {
-        Tint::Plain => "black",
-        Tint::First => "red",
-        Tint::Second => "blue",
-        Tint::Both => "red:blue",
-    }
-}
-
 // The event of that number, one that shows nothing if there are not as many.
 fn event_of(events: &[Event], event: usize) -> Event
     ensures { kind result ≡ slice_index_or (map kind events.now) event no_kind }
 {
-    if event >= events.len() {
-        return Event {
-            sign: None,
-            fault: false,
-        };
-    }
-    events[event]
+    events.get(event).copied().unwrap_or(Event {
+        sign: None,
+        fault: false,
+    })
 }
 
-fn write_edges(out: &mut String, names: &[String], events: &[Event], edges: &[Edge]) -> fmt::Result
-    ensures { OnOk result (string_bytes out.new ≡ string_bytes out.old ++ flat_map (edge_line (map string_bytes names.now) (map kind events.now)) edges.now) }
-{
-    for edge in edges {
-        let from = edge.arrow.from;
-        let to = edge.arrow.to;
-        let event = event_of(events, edge.arrow.event);
+// The line of an edge, by the names of all events and the events.
+#[derive(Clone, Copy)]
+struct Line<'a> {
+    names: &'a [String],
+    events: &'a [Event],
+    edge: Edge,
+}
+
+impl fmt::Display for Line<'_> {
+    ghost output = { λ x. Some (edge_line (map string_bytes x.names.now) (map kind x.events.now) x.edge) };
+
+    fn fmt<W: fmt::Write>(&self, f: &mut fmt::Formatter<W>) -> fmt::Result {
+        let arrow = self.edge.arrow;
+        let from = arrow.from;
+        let to = arrow.to;
+        let event = event_of(self.events, arrow.event);
         let sign = event.shown();
         let label = Label {
-            name: name_of(names, edge.arrow.event),
+            name: name_of(self.names, arrow.event),
             sign,
         };
         let style = style_of(sign == 0, event.fault);
-        let colour = colour_of(edge.tint);
+        let tint = self.edge.tint;
         write!(
-            out,
-            "  {from} -> {to} [label=\"{label}\", style={style}, color=\"{colour}\"];\n"
-        )?;
+            f,
+            "  {from} -> {to} [label=\"{label}\", style={style}, color=\"{tint}\"];\n"
+        )
     }
-    Ok(())
 }
 
-fn print(
-    heap: Global,
-    names: &[String],
-    events: &[Event],
-    edges: &[Edge],
-    title: &str,
-) -> Result<String, fmt::Error>
-    ensures { IfOk result (λ s. string_bytes s ≡ picture (map string_bytes names.now) (map kind events.now) edges.now title.now) }
-{
-    let mut out = String::new(heap);
-    write!(
-        out,
-        "digraph plant {{\n  rankdir=LR;\n  label=\"{title}\";\n  node [shape=circle];\n  start [shape=point];\n  start -> 0;\n"
-    )?;
-    write_edges(&mut out, names, events, edges)?;
-    write!(out, "}}\n")?;
-    Ok(out)
+// A plant as a text for Graphviz, with a title.
+#[derive(Clone, Copy)]
+pub struct Picture<'a> {
+    pub names: &'a [String],
+    pub events: &'a [Event],
+    pub edges: &'a [Edge],
+    pub title: &'a str,
 }
 
-// The picture of a plant, with a title. An error is want of memory.
-pub fn write(
-    heap: Global,
-    names: &[String],
-    events: &[Event],
-    edges: &[Edge],
-    title: &str,
-) -> Result<String, fmt::Error>
-    ensures { IfOk result (λ s. string_bytes s ≡ picture (map string_bytes names.now) (map kind events.now) edges.now title.now) }
-{
-    print(heap, names, events, edges, title)
+impl fmt::Display for Picture<'_> {
+    ghost output = { λ x. Some (picture (map string_bytes x.names.now) (map kind x.events.now) x.edges.now x.title.now) };
+
+    fn fmt<W: fmt::Write>(&self, f: &mut fmt::Formatter<W>) -> fmt::Result {
+        let title = self.title;
+        write!(
+            f,
+            "digraph plant {{\n  rankdir=LR;\n  label=\"{title}\";\n  node [shape=circle];\n  start [shape=point];\n  start -> 0;\n"
+        )?;
+        for edge in self.edges {
+            let line = Line {
+                names: self.names,
+                events: self.events,
+                edge: *edge,
+            };
+            write!(f, "{line}")?;
+        }
+        write!(f, "}}\n")
+    }
 }

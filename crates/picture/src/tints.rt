@@ -3,40 +3,9 @@ ghost use Rattle.std.specs.Prelude.{◌≡◌, map, IfOk};
 ghost use Rattle.picture.specs.Pictures.{arrow_of};
 
 use crate::edges::{Edge, Tint};
-use crate::runs::{Lasso, marks_of};
+use crate::runs::{Lasso, mark};
 use drawing::Arrow;
 use std::alloc::{AllocError, Global};
-
-fn marked(marks: &[bool], i: usize) -> bool {
-    i < marks.len() && marks[i]
-}
-
-fn tint(first: bool, second: bool) -> Tint {
-    match (first, second) {
-        (false, false) => Tint::Plain,
-        (true, false) => Tint::First,
-        (false, true) => Tint::Second,
-        (true, true) => Tint::Both,
-    }
-}
-
-fn edges_of(
-    heap: Global,
-    arrows: &[Arrow],
-    first: &[bool],
-    second: &[bool],
-) -> Result<Vec<Edge>, AllocError>
-    ensures { IfOk result (λ v. map arrow_of v.items ≡ arrows.now) }
-{
-    let mut edges = Vec::new(heap);
-    for i in 0..arrows.len() {
-        edges.push(Edge {
-            arrow: arrows[i],
-            tint: tint(marked(first, i), marked(second, i)),
-        })?;
-    }
-    Ok(edges)
-}
 
 // Every arrow in its order, tinted by the run with a fault and the run without.
 pub fn tinted(
@@ -47,14 +16,21 @@ pub fn tinted(
 ) -> Result<Vec<Edge>, AllocError>
     ensures { IfOk result (λ v. map arrow_of v.items ≡ arrows.now) }
 {
-    let first = marks_of(heap, arrows, first)?;
-    let second = marks_of(heap, arrows, second)?;
-    edges_of(heap, arrows, first.as_slice(), second.as_slice())
+    let mut edges = plain(heap, arrows)?;
+    mark(heap, edges.as_mut_slice(), first, Tint::First)?;
+    mark(heap, edges.as_mut_slice(), second, Tint::Second)?;
+    Ok(edges)
 }
 
 // Every arrow in its order, with no run to be shown.
 pub fn plain(heap: Global, arrows: &[Arrow]) -> Result<Vec<Edge>, AllocError>
     ensures { IfOk result (λ v. map arrow_of v.items ≡ arrows.now) }
 {
-    edges_of(heap, arrows, &[], &[])
+    arrows
+        .iter()
+        .map(|arrow| Edge {
+            arrow: *arrow,
+            tint: Tint::Plain,
+        })
+        .collect(heap)
 }

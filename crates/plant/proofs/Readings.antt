@@ -1,16 +1,20 @@
 -- What is read of a plant that was checked. Assumes nothing.
-use Rattle.std.proofs.Common.{◌≡◌, ℕ, zero, suc, ◌*◌, ◌/◌, ◌<◌, List, [], ◌∷◌, length, get_or, sym, refl, ◌∙◌, subst, arith}
+use Rattle.std.proofs.Common.{◌≡◌, ℕ, zero, suc, Option, Some, None, ◌+◌, ◌*◌, ◌/◌, ◌<◌, ◌≤◌, List, [], ◌∷◌, length, get_or, drop, sym, refl, ap, ◌∙◌, subst, arith}
 use lib.ListN.{length-map}
 use Rattle.std.specs.List.{AllByRecursion}
 use Rattle.std.proofs.ByRecursion.{All-get_or}
-use Rattle.std.proofs.lemmas.List.{get_or-map}
+use Rattle.std.proofs.lemmas.Iterator.{YieldsList}
+use Rattle.std.proofs.lemmas.Iterator.Consumers.{YieldsList-from_first, YieldsList-turn, YieldsList-end}
+use Rattle.std.specs.Iterator.{Yields, YieldsFirst}
+use Rattle.std.proofs.lemmas.List.{get_or-map, get_or_default, map-id, drop_all, drop_more}
 use Rattle.graph.specs.Member.{Among, here, there}
 use Rattle.graph.proofs.Member.{among_map}
 use Rattle.plant.specs.declared.lent.Plant.{Plant as Lent}
+use Rattle.plant.specs.declared.lent.steps.Steps.{Steps}
 use Rattle.plant.specs.declared.parts.Arrow.{Arrow}
 use Rattle.plant.specs.declared.parts.Event.{Event}
 use Rattle.plant.specs.declared.parts.Step.{Step}
-use Rattle.plant.specs.Model.{model, event_count, event_of, step_of, steps, no_arrow, no_step, ArrowAt, StepAt}
+use Rattle.plant.specs.Model.{model, event_count, event_of, step_of, steps, steps_left, no_arrow, no_step, ArrowAt, StepAt}
 use Rattle.plant.specs.Numbers.{arrows_in, plant_in}
 use Rattle.plant.specs.Twin.{Goes}
 use Rattle.plant.specs.Validity.{Fits, Valid}
@@ -49,6 +53,10 @@ module _ (p : Lent) where
   unfolding steps
   step_count = length-map (model p).arrows (step_of (model p))
 
+  pub few_steps : length (steps p) ≤ 1024
+  unfolding plant_in
+  few_steps = omega (arith, step_count, valid.few_arrows)
+
   pub step_read : (i : ℕ) → i < length (model p).arrows → StepAt p i (step_of (model p) (get_or (model p).arrows i no_arrow))
   unfolding steps
   step_read i h = record {
@@ -84,3 +92,30 @@ module _ (p : Lent) where
   pub goes_within : (e s u : ℕ) → Goes (model p) e s u → (s < p.states) × (u < p.states)
   unfolding plant_in
   goes_within e s u g = let f = all_among (Fits p.states (event_count p)) valid.fits g in (f.from, f.to)
+
+-- what an iterator has left: nothing past the last step, and else the step that it gives next and the others
+module _ (s : Steps) where
+  pub steps_over : length (steps s.plant) ≤ s.next → steps_left s ≡ []
+  unfolding steps_left
+  steps_over h = drop_all s.next (steps s.plant) h
+
+  pub steps_next : {x : Step} → StepAt s.plant s.next x → steps_left s ≡ x ∷ steps_left (record { plant = s.plant; next = s.next + 1 })
+  unfolding steps_left
+  steps_next at = drop_more (steps s.plant) s.next no_step at.there ∙ ap (λ y. y ∷ drop (s.next + 1) (steps s.plant)) (sym at.is)
+
+-- a loop over the steps of p: what was given so far are its first steps, the next is the step behind them, and at the end all were given
+module _ (p : Lent) (s : Steps) (e : steps_left s ≡ steps p) where
+  road : YieldsList (YieldsFirst steps_left) (λ (x : Step). x) s (steps p)
+  road = YieldsList-from_first (λ (x : Step). x) steps_left (steps p) e
+
+  module _ (xs : List Step) (t : Steps) (y : Yields (YieldsFirst steps_left) s xs t) (r : Option Step) (u : Steps) where
+    pub steps_turn : (x : Step) → r ≡ Some x → YieldsFirst steps_left t r u → StepAt p (length xs) x
+    steps_turn x is next =
+        let turn = YieldsList-turn road xs t y r u x is next in
+        let h : length xs < length (model p).arrows = omega (arith, step_count p, turn.0) in
+        let read = step_read p (length xs) h in
+        let same : x ≡ get_or (steps p) (length xs) no_step = turn.1 ∙ get_or_default (steps p) (length xs) x no_step turn.0 in
+        subst (StepAt p (length xs)) (read.is ∙ sym same) read
+
+    pub steps_end : r ≡ None → YieldsFirst steps_left t r u → xs ≡ steps p
+    steps_end is next = sym (map-id xs) ∙ (YieldsList-end road xs t y r u is next).0

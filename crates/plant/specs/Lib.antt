@@ -3,6 +3,7 @@ pub mod Numbers
 pub mod Refusals
 pub mod Validity
 pub mod Checked
+pub mod Marks
 pub mod Model
 pub mod Twin
 pub mod Theorems

@@ -1,6 +1,7 @@
 -- What a checked plant stands for, and what is read of it. These are definitions and assume nothing.
-use Rattle.std.specs.Prelude.{◌≡◌, ℕ, ◌/◌, ◌<◌, false, List, map, length, slice_index_or}
+use Rattle.std.specs.Prelude.{◌≡◌, ℕ, ◌/◌, ◌<◌, false, List, map, drop, length, slice_index_or}
 use Rattle.plant.specs.declared.lent.Plant.{Plant as Lent}
+use Rattle.plant.specs.declared.lent.steps.Steps.{Steps}
 use Rattle.plant.specs.declared.parts.Arrow.{Arrow}
 use Rattle.plant.specs.declared.parts.Event.{Event}
 use Rattle.plant.specs.declared.parts.Step.{Step}
@@ -24,6 +25,10 @@ step_of p a = record { from = a.from; event = a.event; sign = p.shows a.event; f
 -- its arrows, each with what its event shows and is
 unfoldable pub steps : Lent → List Step
 steps p = map (step_of (model p)) (model p).arrows
+
+-- those that an iterator has not given yet
+unfoldable pub steps_left : Steps → List Step
+steps_left s = drop s.next (steps s.plant)
 
 -- what stands for an element past the end of a list
 abbrev pub no_arrow : Arrow

@@ -1,5 +1,5 @@
 -- Which numbers are turned away, by which rule and at which place: the rules in their order. These are definitions and assume nothing.
-use Rattle.std.specs.Prelude.{ℕ, suc, ◌-◌, ◌/◌, ◌%◌, cond, ◌&&◌, List, [], ◌∷◌, length, Some, None, Option, ◌==◌, nat_le, nat_lt, slice_index}
+use Rattle.std.specs.Prelude.{ℕ, suc, ◌-◌, ◌/◌, ◌%◌, cond, ◌&&◌, List, [], ◌∷◌, ◌++◌, length, Some, None, Option, codes, decimal, ◌==◌, nat_le, nat_lt, slice_index}
 use Rattle.std.specs.Option.{option_map}
 use Rattle.plant.specs.declared.parts.Refusal.{Refusal}
 use Rattle.plant.specs.declared.parts.Refusal.TheVariants.{States, Events, Arrows, Room, Memory, Text, Sorts, Candidates, Labelling}
@@ -26,6 +26,10 @@ place_of (Text k) = k
 place_of (Sorts k) = k
 place_of (Candidates k) = k
 place_of (Labelling k) = k
+
+-- the line that says so
+abbrev pub turned_away : Refusal → List ℕ
+turned_away r = codes "turned away: " ++ (decimal (number_of r) ++ (codes " at " ++ decimal (place_of r)))
 
 -- the first of two refusals that there is
 abbrev pub or_else : Option Refusal → Option Refusal → Option Refusal

@@ -4,8 +4,18 @@ ghost use Rattle.plant.specs.Refusals.{refusal};
 
 mod checks;
 mod reading;
+mod steps;
 
-pub use checks::check;
+pub use checks::{check, first_over};
+pub use steps::Steps;
+
+// The numbers that are lent for a plant: how many states it has, three numbers for each arrow, two for each event. Nothing says that they make one.
+#[derive(Clone, Copy)]
+pub struct Numbers<'a> {
+    pub states: u64,
+    pub arrows: &'a [u16],
+    pub events: &'a [u16],
+}
 
 #[derive(Clone, Copy)]
 pub struct Plant<'a> {

@@ -12,6 +12,7 @@ use Rattle.foretelling.specs.Foretelling.{Foretells}
 use Rattle.foretelling.specs.Theorems.{AtLast}
 use Rattle.foretelling.proofs.Alarms.{last_moment, least_alarm}
 use Rattle.foretelling.proofs.Calm.{arrows_numbers, calm_valid}
+use Rattle.predictability.specs.declared.calm.Calmed.{Calmed}
 use Rattle.predictability.specs.Calmed.{Calms}
 
 -- an alarm at each last moment for as many events as n or as there are states
@@ -24,11 +25,13 @@ module _ (p : Lent) (xs es : List ℕ) (are : xs ≡ numbers (harmless (model p)
   unfolding plant_in
   accepted n e = rw (e, are, same) ((refused_or_valid p.states _ p.events.now).1 (calm_valid (model p) p.states p.arrows.now p.events.now (valid p)))
 
-  pub calms : (q : Lent) → q.arrows.now ≡ xs → q.events.now ≡ es → q.states ≡ p.states → Calms q p
-  unfolding plant_in
-  calms q a e n =
-      let back = arrows_numbers (harmless (model p) (model p).arrows) in
-      record {
-        model = (λ i. plant_in ((a ∙ are) i) ((e ∙ same) i)) ∙ (λ i. record { arrows = back i; shows = (model p).shows; fault = (model p).fault });
-        states = n;
-      }
+-- the one plant is the other without its faults
+pub calms : (c : Calmed) → Calms c.calm c.plant
+unfolding plant_in
+calms c =
+    let p = model c.plant in
+    let back = arrows_numbers (harmless p p.arrows) in
+    record {
+      model = (λ i. plant_in (c.arrows i) (c.events i)) ∙ (λ i. record { arrows = back i; shows = p.shows; fault = p.fault });
+      states = c.states;
+    }

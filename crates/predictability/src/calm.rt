@@ -1,33 +1,54 @@
-// A plant without its faults: the arrows that are none, as numbers in a lent room.
-ghost use Rattle.std.specs.Prelude.{◌≡◌, ◌+◌, ◌≤◌, [], ◌∷◌, ◌++◌, length, take};
+// A plant without its faults, over the numbers of the arrows that are none.
+ghost use Rattle.std.specs.Prelude.{◌≡◌};
 ghost use Rattle.plant.specs.Model.{model};
-ghost use Rattle.predictability.specs.Calmed.{LeftOut};
+ghost use Rattle.foretelling.specs.Calm.{harmless, numbers};
 
-use plant::{Plant, Step};
+use arrayvec::ArrayVec;
+use plant::{Numbers, Plant};
 
-// Writes the three numbers of a step from a place on.
-fn put(step: Step, at: usize, room: &mut [u16])
-    requires { at + 3 ≤ length room.old }
-    ensures { take (at + 3) room.new ≡ take at room.old ++ (step.from ∷ step.event ∷ step.to ∷ []) }
-{
-    room[at] = step.from;
-    room[at + 1] = step.event;
-    room[at + 2] = step.to;
+// As many numbers as the arrows of a plant can have.
+const MOST_ARROW_NUMBERS: usize = 3072;
+
+// A plant, and the same without its faults.
+#[derive(Clone, Copy)]
+pub struct Calmed<'a> {
+    pub plant: Plant<'a>,
+    pub calm: Plant<'a>,
+    ghost arrows: { calm.arrows.now ≡ numbers (harmless (model plant) (model plant).arrows) },
+    ghost events: { calm.events.now ≡ plant.events.now },
+    ghost states: { calm.states ≡ plant.states },
 }
 
-// Writes the arrows that are no faults to the front of the room, and tells how many numbers that takes.
-pub fn leave_out(plant: Plant, room: &mut [u16]) -> usize
-    requires { 3072 ≤ length room.old }
-    ensures { LeftOut (model plant.entry) (model plant.entry).arrows room.new result }
+// The numbers of the arrows that are no faults.
+pub fn harmless_arrows(plant: Plant) -> ArrayVec<u16, MOST_ARROW_NUMBERS>
+    ensures { result.items ≡ numbers (harmless (model plant.entry) (model plant.entry).arrows) }
 {
-    let mut len = 0;
-    let mut i = 0;
-    while let Some(step) = plant.step(i) {
+    let mut arrows = ArrayVec::new();
+    for step in plant.steps() {
         if !step.fault {
-            put(step, len, room);
-            len += 3;
+            arrows.push(step.from);
+            arrows.push(step.event);
+            arrows.push(step.to);
         }
-        i += 1;
     }
-    len
+    arrows
+}
+
+impl<'a> Calmed<'a> {
+    // The arrows that are no faults are lent, and the plant's events.
+    pub fn new(plant: Plant<'a>, arrows: &'a [u16], events: &'a [u16]) -> Calmed<'a>
+        requires arrows { arrows.now ≡ numbers (harmless (model plant) (model plant).arrows) }
+        requires events { events.now ≡ plant.events.now }
+        ensures { result.plant ≡ plant.entry }
+    {
+        let numbers = Numbers {
+            states: plant.states(),
+            arrows,
+            events,
+        };
+        Calmed {
+            plant,
+            calm: Plant::new(numbers),
+        }
+    }
 }

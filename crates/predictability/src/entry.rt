@@ -1,86 +1,34 @@
 // The entry: whether each fault of a plant is foretold, over numbers that are lent. It asks nothing of its caller.
-ghost use Rattle.std.specs.Prelude.{◌≡◌, ◌*◌, ◌≤◌, min, length, None};
+ghost use Rattle.std.specs.Prelude.{◌*◌, ◌≤◌, length};
 ghost use Rattle.diagnosability.specs.Verdict.{judge_refusal};
+ghost use Rattle.plant.specs.Checked.{behaviour};
 ghost use Rattle.plant.specs.Model.{model};
-ghost use Rattle.plant.specs.Numbers.{plant_in};
-ghost use Rattle.foretelling.specs.Calm.{harmless, numbers};
-ghost use Rattle.predictability.specs.Calmed.{Calms};
-ghost use Rattle.predictability.specs.Foresight.{ForesightSays};
+ghost use Rattle.predictability.specs.Foresight.{ForesightSays, MissedSays};
 
-use crate::calm::leave_out;
-use crate::foresight::Foresight;
-use crate::rows::lay;
-use crate::search::search;
+use crate::calm::{Calmed, harmless_arrows};
+use crate::missed::Missed;
 use diagnosability::check;
-use plant::Plant;
+use plant::{Numbers, Plant, Refusal};
 
-// As many events as are asked for, or as there are states: what goes on for as many goes on for ever.
-fn least(events_ahead: u64, states: u64) -> u64
-    ensures { result ≡ min events_ahead states }
+// What is said of a plant, the room being large enough. As many events are looked at as are asked for, or as there are states: what goes on for as many goes on for ever.
+fn decide(calmed: Calmed, ahead: u64, room: &mut [u16]) -> Option<Missed>
+    requires { 8 * (calmed.plant.states * calmed.plant.states) ≤ length room.old }
+    ensures { MissedSays (model calmed.entry.plant) calmed.entry.plant.states ahead room.old result room.new }
 {
-    events_ahead.min(states)
-}
-
-// What is said of a plant, the room being large enough.
-fn decide<'a>(plant: Plant<'a>, calm: Plant<'a>, events_ahead: u64, room: &mut [u16]) -> Foresight
-    requires calm { Calms calm plant }
-    requires room { 8 * (plant.states * plant.states) ≤ length room.old }
-    ensures { ForesightSays None (model plant.entry) plant.entry.states events_ahead room.old result room.new }
-{
-    let events = least(events_ahead, plant.states());
-    match search(plant, calm, events) {
-        None => Foresight::Foretold,
-        Some(pair) => lay(plant, calm, events_ahead, events, pair, room),
-    }
-}
-
-// The same, the arrows that are no faults being lent as well.
-fn decide_by<'a>(
-    plant: Plant<'a>,
-    arrows: &'a [u16],
-    events: &'a [u16],
-    events_ahead: u64,
-    room: &mut [u16],
-) -> Foresight
-    requires arrows { arrows.now ≡ numbers (harmless (model plant) (model plant).arrows) }
-    requires events { events.now ≡ plant.events.now }
-    requires room { 8 * (plant.states * plant.states) ≤ length room.old }
-    ensures { ForesightSays None (model plant.entry) plant.entry.states events_ahead room.old result room.new }
-{
-    let calm = Plant::new(plant.states(), arrows, events);
-    decide(plant, calm, events_ahead, room)
-}
-
-fn answer<'a>(
-    states: u64,
-    arrows: &'a [u16],
-    events: &'a [u16],
-    events_ahead: u64,
-    room: &mut [u16],
-) -> Foresight
-    ensures { ForesightSays (judge_refusal states arrows.now events.now (length room.old)) (plant_in arrows.now events.now) states events_ahead room.old result room.new }
-{
-    match check(states, arrows, events, room.len() as u64) {
-        Err(refusal) => Foresight::Turned(refusal.number()),
-        Ok(()) => {
-            let plant = Plant::new(states, arrows, events);
-            let mut harmless = [0; 3072];
-            let len = leave_out(plant, &mut harmless);
-            decide_by(plant, &harmless[0..len], events, events_ahead, room)
-        }
-    }
+    let events = ahead.min(calmed.plant.states());
+    let pair = calmed.search(events)?;
+    Some(calmed.lay(ahead, events, pair, room))
 }
 
 // Whether each fault of a plant is foretold in so many events: before it happens signs are shown after which no run without a fault goes on by as many.
 // If one is not, four rows are left in the room, one behind the other: a run, the fault that follows it, another run that shows the same, and the events that it goes on by.
-pub fn foretell(
-    states: u64,
-    arrows: &[u16],
-    events: &[u16],
-    events_ahead: u64,
-    room: &mut [u16],
-) -> Foresight
-    ensures { ForesightSays (judge_refusal states arrows.now events.now (length room.old)) (plant_in arrows.now events.now) states events_ahead room.old result room.new }
+// An error is the first rule that turns the numbers away, and then the room stays as it was.
+pub fn foretell(numbers: Numbers, ahead: u64, room: &mut [u16]) -> Result<Option<Missed>, Refusal>
+    ensures { ForesightSays (judge_refusal numbers.entry.states numbers.entry.arrows.now numbers.entry.events.now (length room.old)) (behaviour numbers.entry) numbers.entry.states ahead room.old result room.new }
 {
-    answer(states, arrows, events, events_ahead, room)
+    check(numbers, room.len() as u64)?;
+    let plant = Plant::new(numbers);
+    let arrows = harmless_arrows(plant);
+    let calmed = Calmed::new(plant, arrows.as_slice(), numbers.events);
+    Ok(decide(calmed, ahead, room))
 }

@@ -3,8 +3,8 @@
 
 mod calm;
 mod entry;
-mod foresight;
 mod going;
+mod missed;
 mod rows;
 mod search;
 mod states;
@@ -12,4 +12,4 @@ mod states;
 mod tests;
 
 pub use entry::foretell;
-pub use foresight::Foresight;
+pub use missed::Missed;

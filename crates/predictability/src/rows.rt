@@ -2,31 +2,17 @@
 ghost use Rattle.std.specs.Prelude.{◌≡◌, ◌+◌, ◌*◌, ◌<◌, ◌≤◌, min, length};
 ghost use Rattle.plant.specs.Model.{model};
 ghost use Rattle.foretelling.specs.Foretelling.{Lasts};
-ghost use Rattle.predictability.specs.Calmed.{Calms};
-ghost use Rattle.predictability.specs.Foresight.{MissedBy};
+ghost use Rattle.predictability.specs.Foresight.{MissedIn};
 ghost use Rattle.predictability.specs.Rows.{LaidOn, LaidRows, TwoRuns};
 ghost use Rattle.predictability.specs.Search.{Caught};
 
-use crate::foresight::Foresight;
+use crate::calm::Calmed;
 use crate::going::{go_on, strike};
-use plant::Plant;
-use witness::{Mark, Pair, Rows, trace};
+use crate::missed::Missed;
+use plant::{Mark, Plant};
+use witness::{Pair, Rows, trace};
 
-// Two runs without a fault to the pair that show the same. They are traced in the plant without its faults.
-fn runs(plant: Plant, calm: Plant, events: u64, pair: Pair, room: &mut [u16]) -> Rows
-    requires calm { Calms calm plant }
-    requires caught { Caught (model plant) plant.states events pair }
-    requires room { 4 * (calm.states * calm.states) ≤ length room.old }
-    ensures { TwoRuns (model plant.entry) plant.entry.states pair room.new result }
-{
-    if pair.left == 0 {
-        return Rows { left: 0, right: 0 };
-    }
-    match trace(calm, Pair { left: 0, right: 0 }, pair, Mark::Any, room) {
-        Some(rows) => rows,
-        None => unreachable(),
-    }
-}
+// That so many events can follow says by which, so it is no fact for a ghost field: each of these functions asks for it.
 
 // The other run, and behind it events without a fault that can follow in the state where it ends.
 fn lay_on(plant: Plant, other: &[u16], state: u16, events: usize, room: &mut [u16])
@@ -61,33 +47,46 @@ fn lay_rows(
     lay_on(plant, other, state, events, &mut room[end + 1..]);
 }
 
-// The four rows for a pair.
-pub fn lay(
-    plant: Plant,
-    calm: Plant,
-    events_ahead: u64,
-    events: u64,
-    pair: Pair,
-    room: &mut [u16],
-) -> Foresight
-    requires calm { Calms calm plant }
-    requires events { events ≡ min events_ahead plant.states }
-    requires caught { Caught (model plant) plant.states events pair }
-    requires room { 8 * (plant.states * plant.states) ≤ length room.old }
-    ensures { MissedBy (model plant.entry) plant.entry.states events_ahead room.old result room.new }
-{
-    let mut traced = [0; 4096];
-    let rows = runs(plant, calm, events, pair, &mut traced);
-    let fault = strike(plant, pair.left);
-    let end = rows.left;
-    lay_rows(
-        plant,
-        &traced[0..end],
-        fault,
-        &traced[end..end + rows.right],
-        pair.right,
-        events as usize,
-        room,
-    );
-    Foresight::NotForetold(rows.left as u64, 1, rows.right as u64, events)
+impl<'a> Calmed<'a> {
+    // Two runs without a fault to the pair that show the same. They are traced in the plant without its faults.
+    fn runs(self, events: u64, pair: Pair, room: &mut [u16]) -> Rows
+        requires caught { Caught (model self.plant) self.plant.states events pair }
+        requires room { 4 * (self.calm.states * self.calm.states) ≤ length room.old }
+        ensures { TwoRuns (model self.entry.plant) self.entry.plant.states pair room.new result }
+    {
+        if pair.left == 0 {
+            return Rows { left: 0, right: 0 };
+        }
+        let start = Pair { left: 0, right: 0 };
+        trace(self.calm, start, pair, Mark::Any, room).unwrap()
+    }
+
+    // The four rows for a pair.
+    pub fn lay(self, ahead: u64, events: u64, pair: Pair, room: &mut [u16]) -> Missed
+        requires events { events ≡ min ahead self.plant.states }
+        requires caught { Caught (model self.plant) self.plant.states events pair }
+        requires room { 8 * (self.plant.states * self.plant.states) ≤ length room.old }
+        ensures { MissedIn (model self.entry.plant) self.entry.plant.states ahead result room.old room.new }
+    {
+        // Four times the square of 32 states, the most that two runs take: nothing is allocated here.
+        let mut traced = [0; 4096];
+        let rows = self.runs(events, pair, &mut traced);
+        let fault = strike(self.plant, pair.left);
+        let end = rows.left;
+        lay_rows(
+            self.plant,
+            &traced[0..end],
+            fault,
+            &traced[end..end + rows.right],
+            pair.right,
+            events as usize,
+            room,
+        );
+        Missed {
+            run: rows.left as u64,
+            fault: 1,
+            other: rows.right as u64,
+            later: events,
+        }
+    }
 }

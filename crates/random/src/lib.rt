@@ -6,6 +6,13 @@ pub struct Random {
     state: u64,
 }
 
+// What the programs begin with, so that they make the same at every run.
+impl Default for Random {
+    fn default() -> Random {
+        Random::new(0x9e37_79b9_7f4a_7c15)
+    }
+}
+
 impl Random {
     // The seed must not be 0, which a xorshift never leaves.
     pub fn new(seed: u64) -> Random {
@@ -22,6 +29,7 @@ impl Random {
     }
 
     // A number below the bound, or 0 if there is none.
+    // No Option, which would be no plainer: all bounds here are above 0 but a list's length, and of no items `pick` finds none at place 0.
     pub fn below(&mut self, bound: u16) -> u16 {
         // The lowest bits of a xorshift are its weakest.
         let high = self.next() >> 20;
@@ -39,10 +47,16 @@ impl Random {
         self.below(n) == 0
     }
 
-    // One of the numbers, or 0 if there are none.
-    pub fn pick(&mut self, numbers: &[u16]) -> u16 {
-        let place = self.place(numbers.len());
-        numbers.get(place).copied().unwrap_or(0)
+    // One of the items, if there is one.
+    pub fn pick<T: Copy>(&mut self, items: &[T]) -> Option<T> {
+        let place = self.place(items.len());
+        items.get(place).copied()
+    }
+
+    // One of the items to be written, if there is one.
+    pub fn pick_mut<'a, T>(&mut self, items: &'a mut [T]) -> Option<&'a mut T> {
+        let place = self.place(items.len());
+        items.get_mut(place)
     }
 
     // A place in a list of that length.

@@ -1,20 +1,20 @@
 -- All sets are met by their numbers, and a cheapest of these is a cheapest of all. Assumes nothing.
-use Rattle.std.proofs.Common.{◌≡◌, ℕ, zero, suc, ◌+◌, ◌*◌, ◌/◌, ◌%◌, ◌^◌, ◌<◌, ◌≤◌, Bool, true, false, ◌&&◌, eqb, List, [], ◌∷◌, length, get_or, replicate, sym, refl, ap, ◌∙◌, subst, inl, inr, ⊎_elim, true≢false, pow-suc, arith}
+use Rattle.std.proofs.Common.{◌≡◌, ℕ, zero, suc, ◌+◌, ◌*◌, ◌/◌, ◌%◌, ◌^◌, ◌<◌, ◌≤◌, Bool, true, false, ◌&&◌, eqb, List, [], ◌∷◌, length, get_or, replicate, sym, refl, ap, ◌∙◌, subst, ⊎_elim, true≢false, pow-suc, arith}
 use lib.Bits.{bit_and, and_step}
-use Rattle.std.specs.List.{AllByRecursion}
+use Rattle.std.specs.List.{AllByRecursion, HoldsAt}
 use Rattle.std.proofs.lemmas.Bool.{cases_lt, or_cases, or_left, or_right, and_parts, and_from, eqb-true, eq-eqb, ne_eqb}
 use Rattle.plant.specs.Numbers.{plant_in}
 use Rattle.plant.specs.Plant.{Plant, ComesOut}
 use Rattle.views.specs.Shown.{Shown, Within}
 use Rattle.views.proofs.Showing.{shown_more, shown_some}
-use Rattle.sensors.specs.declared.failed.Failed.{Failed}
 use Rattle.sensors.specs.declared.selection.Best.{Best}
 use Rattle.sensors.specs.declared.selection.Known.{Known}
+use Rattle.sensors.specs.declared.selection.Selection.{Selection}
 use Rattle.sensors.specs.Candidates.{Fit, chosen, cost}
 use Rattle.sensors.specs.Choice.{CheapestSet, NoSet}
-use Rattle.sensors.specs.Walls.{Covered, Noted}
-use Rattle.sensors.specs.Sets.{digits, chosen_by, cost_by, Never, Sound, NoLess, Failing, Better, BestOf}
-use Rattle.sensors.proofs.Deciding.{sign_small}
+use Rattle.sensors.specs.Sets.{digits, chosen_by, cost_by, plant_of, Never, Sound, NoLess, Failing, Better, BestOf}
+use Rattle.outcome.proofs.Changed.{sign_small}
+use Rattle.sensors.proofs.Fitting.{fitted}
 
 -- the number of a set, of so many digits
 bit : Bool → ℕ
@@ -160,19 +160,22 @@ module _ (p : Plant) (cs ps : List ℕ) where
           ⊎_elim (λ lt. omega (arith, so_far.least s lt q shown out, better.below))
           (λ le. let at : i ≡ s = omega arith in subst (NoLess p cs ps next.best) at better.here q shown out) (cases_lt s i)
 
-  -- one more that does not do
-  pub failing_more : (f g : Failed) (s : ℕ) → Failing p cs f → Never p (chosen_by cs s) → Noted f.sets f.count s g.sets g.count → Failing p cs g
-  failing_more f g s failing never noted = record {
-    never = λ k h. elim (noted k h) [ inl e ↦ subst (λ (t : ℕ). Never p (chosen_by cs t)) (sym e) never | inr o ↦ subst (λ (t : ℕ). Never p (chosen_by cs t)) (sym o.1) (failing.never k o.0) ];
-  }
-
-module _ (n : ℕ) (xs es cs ps : List ℕ) (fit : Fit n xs es cs ps) where
+module _ (s : Selection) where
   abbrev p : Plant
-  p = plant_in xs es
+  p = plant_of s
+
+  abbrev cs : List ℕ
+  cs = s.candidates.now
+
+  abbrev ps : List ℕ
+  ps = s.prices.now
+
+  fit : Fit s.numbers.states s.numbers.arrows.now s.numbers.events.now s.candidates.now s.prices.now
+  fit = fitted s
 
   some_shown : (set : ℕ → Bool) → (q : Plant) × Shown p set q
   unfolding plant_in
-  some_shown set = shown_some (plant_in xs es) set 255 (sign_small fit.valid)
+  some_shown set = shown_some p set 255 (sign_small fit.valid)
 
   -- if the whole set does not do, none does
   pub none_does : Never p (chosen_by cs 4095) → NoSet p cs
@@ -182,14 +185,14 @@ module _ (n : ℕ) (xs es cs ps : List ℕ) (fit : Fit n xs es cs ps) where
       never all.0 all.1 (out.0, shown_more p q all.0 (chosen cs ms) (chosen_by cs 4095) out.0 (within_whole cs ms fit.few) shown all.1 out.1)
 
   -- a set within one that does not do does not do
-  pub never_within : (s t : ℕ) → bit_and s t ≡ s → Never p (chosen_by cs t) → Never p (chosen_by cs s)
+  pub never_within : (a b : ℕ) → bit_and a b ≡ a → Never p (chosen_by cs b) → Never p (chosen_by cs a)
   unfolding ComesOut
-  never_within s t in' never q shown out =
-      let all = some_shown (chosen_by cs t) in
-      never all.0 all.1 (out.0, shown_more p q all.0 (chosen_by cs s) (chosen_by cs t) out.0 (λ e. within_by cs s t 12 e in') shown all.1 out.1)
+  never_within a b in' never q shown out =
+      let all = some_shown (chosen_by cs b) in
+      never all.0 all.1 (out.0, shown_more p q all.0 (chosen_by cs a) (chosen_by cs b) out.0 (λ e. within_by cs a b 12 e in') shown all.1 out.1)
 
-  pub hopeless : (f : Failed) → Failing p cs f → (s : ℕ) → Covered f.sets f.count s → Never p (chosen_by cs s)
-  hopeless f failing s c = never_within s (get_or f.sets c.0 0) c.2 (failing.never c.0 c.1)
+  pub hopeless : (failed : List ℕ) → Failing p cs failed → (a : ℕ) → (k : ℕ) × (k < length failed) × HoldsAt (λ w. bit_and a w ≡ a) failed k → Never p (chosen_by cs a)
+  hopeless failed failing a within = never_within a (get_or failed within.0 0) (within.2 0) (failing within.0 0 within.1)
 
   -- the best of all numbers is a cheapest set
   pub cheapest : (b : Best) → BestOf p cs ps (2 ^ length cs) b → CheapestSet p cs ps (digits (length cs) b.set) b.sum
@@ -204,7 +207,7 @@ module _ (n : ℕ) (xs es cs ps : List ℕ) (fit : Fit n xs es cs ps) where
     where
       least : (other : List ℕ) (q : Plant) → Shown p (chosen cs other) q → ComesOut q → b.sum ≤ cost ps other
       least other q shown out =
-          let s = code (length cs) other in
+          let set = code (length cs) other in
           let same = code_cost ps other (length cs) 12 (omega (arith, fit.priced)) (omega (arith, fit.few, fit.priced)) in
-          let le : b.sum ≤ cost_by ps s = best.least s (code_small (length cs) other) q (shown_as p q _ _ (λ e. sym (code_chosen cs other (length cs) 12 e (omega arith) fit.few)) shown) out in
+          let le : b.sum ≤ cost_by ps set = best.least set (code_small (length cs) other) q (shown_as p q _ _ (λ e. sym (code_chosen cs other (length cs) 12 e (omega arith) fit.few)) shown) out in
           rw same at le

@@ -1,28 +1,36 @@
 -- Marks and sums of sets. Assumes nothing.
-use Rattle.std.proofs.Common.{◌≡◌, ℕ, suc, ◌+◌, ◌-◌, ◌/◌, ◌%◌, ◌<◌, ◌≤◌, Bool, cond, eqb, List, [], ◌∷◌, ◌++◌, length, get_or, take, drop, set, sym, ap, ◌∙◌, arith}
-use Rattle.std.proofs.lemmas.List.{drop_more, drop_all, take_more_set, take_all, append-nil, append_assoc}
-use Rattle.std.proofs.lemmas.Bool.{eq-eqb, ne_eqb}
+use Rattle.std.proofs.Common.{◌≡◌, ℕ, suc, ◌+◌, ◌-◌, ◌/◌, ◌%◌, ◌*◌, ◌<◌, ◌≤◌, Bool, true, false, cond, eqb, List, [], ◌∷◌, ◌++◌, map, length, get_or, take, set, sym, refl, ap, ◌∙◌, arith}
+use Rattle.std.proofs.lemmas.List.{take_more_set, take_all, append-nil, append_assoc}
+use Rattle.std.specs.List.{filter, sum, zip}
+use Rattle.std.proofs.lemmas.List.Sums.{sum_by-cons}
 use Rattle.sensors.specs.Candidates.{cost}
 use Rattle.sensors.specs.Sets.{digits}
 
-module _ (ps ms : List ℕ) (i : ℕ) (there : i < length ps) (marked : i < length ms) where
-  cost_more : cost (drop i ps) (drop i ms) ≡ cond (eqb (get_or ms i 0) 1) (get_or ps i 0) 0 + cost (drop (i + 1) ps) (drop (i + 1) ms)
-  unfolding cost
-  cost_more = ap (λ (xs : List ℕ). cost xs (drop i ms)) (drop_more ps i 0 there) ∙ ap (cost (get_or ps i 0 ∷ drop (i + 1) ps)) (drop_more ms i 0 marked)
+-- the prices that are marked
+abbrev pub marked : (ps ms : List ℕ) → List ℕ
+marked ps ms = map (λ (p : ℕ × ℕ). p.0) (filter (λ (p : ℕ × ℕ). eqb p.1 1) (zip ps ms))
 
-  pub cost_taken : (sum : ℕ) → sum + cost (drop i ps) (drop i ms) ≡ cost ps ms → get_or ms i 0 ≡ 1 → (sum + get_or ps i 0) + cost (drop (i + 1) ps) (drop (i + 1) ms) ≡ cost ps ms
-  cost_taken sum e mark =
-      let more = cost_more ∙ ap (λ (b : Bool). cond b (get_or ps i 0) 0 + cost (drop (i + 1) ps) (drop (i + 1) ms)) (eq-eqb (get_or ms i 0) 1 mark) in
-      omega arith
-
-  pub cost_left : (sum : ℕ) → sum + cost (drop i ps) (drop i ms) ≡ cost ps ms → (get_or ms i 0 ≡ 1 → ⊥) → sum + cost (drop (i + 1) ps) (drop (i + 1) ms) ≡ cost ps ms
-  cost_left sum e mark =
-      let more = cost_more ∙ ap (λ (b : Bool). cond b (get_or ps i 0) 0 + cost (drop (i + 1) ps) (drop (i + 1) ms)) (ne_eqb (get_or ms i 0) 1 mark) in
-      omega arith
-
-pub cost_none : (ps ms : List ℕ) (i sum : ℕ) → length ps ≤ i → sum + cost (drop i ps) (drop i ms) ≡ cost ps ms → sum ≡ cost ps ms
+-- their sum is the cost
+pub marked_sum : (ps ms : List ℕ) → sum (marked ps ms) ≡ cost ps ms
 unfolding cost
-cost_none ps ms i sum h e = let z : cost (drop i ps) (drop i ms) ≡ 0 = ap (λ (xs : List ℕ). cost xs (drop i ms)) (drop_all i ps h) in omega arith
+marked_sum [] ms = refl
+marked_sum (p ∷ ps) [] = refl
+marked_sum (p ∷ ps) (m ∷ ms) = by_case (eqb m 1) (marked_sum ps ms)
+  where
+    by_case : (b : Bool) → sum (marked ps ms) ≡ cost ps ms → sum (map (λ (q : ℕ × ℕ). q.0) (cond b ((p, m) ∷ filter (λ (q : ℕ × ℕ). eqb q.1 1) (zip ps ms)) (filter (λ (q : ℕ × ℕ). eqb q.1 1) (zip ps ms)))) ≡ cond b p 0 + cost ps ms
+    by_case true e = sum_by-cons (λ (x : ℕ). x) p (marked ps ms) ∙ ap (λ (k : ℕ). p + k) e
+    by_case false e = omega (arith, e)
+
+-- a bound for it
+pub cost_small : (ps ms : List ℕ) (most : ℕ) → ((i : ℕ) → i < length ps → get_or ps i 0 < most) → cost ps ms ≤ length ps * most
+unfolding cost
+cost_small [] ms most cheap = omega arith
+cost_small (p ∷ ps) [] most cheap = omega arith
+cost_small (p ∷ ps) (m ∷ ms) most cheap = by_case (eqb m 1) (cheap 0 (omega arith)) (cost_small ps ms most (λ i h. cheap (suc i) (omega arith)))
+  where
+    by_case : (b : Bool) → p < most → cost ps ms ≤ length ps * most → cond b p 0 + cost ps ms ≤ suc (length ps) * most
+    by_case true lt le = omega arith
+    by_case false lt le = omega arith
 
 -- one mark more
 pub digits_more : (ms : List ℕ) (i n s rest : ℕ) → i < length ms → length ms ≡ n → take i ms ++ digits (n - i) rest ≡ digits n s

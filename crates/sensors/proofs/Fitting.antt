@@ -1,11 +1,11 @@
 -- Nothing is turned away if and only if it fits. Assumes nothing.
-use Rattle.std.proofs.Common.{◌≡◌, ℕ, zero, suc, ◌+◌, ◌*◌, ◌/◌, ◌<◌, ◌≤◌, Bool, false, cond, not, eqb, ltb, leb, List, length, get_or, take, Some, None, Ok, Option, refl, arith}
+use Rattle.std.proofs.Common.{◌≡◌, ℕ, zero, suc, ◌+◌, ◌*◌, ◌/◌, ◌<◌, ◌≤◌, Bool, false, cond, not, eqb, ltb, leb, List, length, get_or, take, Some, None, is_some, refl, ap, arith}
 use Rattle.std.proofs.lemmas.Bool.{ltb-false, le-ltb, leb-false, lt-leb, eqb-true, eq-eqb, or_parts, or_from, not-false, not_from_true}
-use Rattle.plant.specs.declared.parts.Refusal.{Refusal}
 use Rattle.plant.specs.declared.parts.Refusal.TheVariants.{Candidates}
-use Rattle.plant.specs.Checked.{checked}
 use Rattle.plant.specs.Refusals.{refusal}
 use Rattle.plant.proofs.Valid.{or_else_none, mapped_none, passed, failed, refused_or_valid}
+use Rattle.outcome.proofs.Passed.{none_by}
+use Rattle.sensors.specs.declared.selection.Selection.{Selection}
 use Rattle.sensors.specs.Candidates.{named, unfit, first_where, candidates_refusal, choice_refusal, Fit, RefusedOrFit}
 
 -- no index passes the test
@@ -96,7 +96,12 @@ refused_or_fit n xs es cs ps marks = (fits, none)
         let fit = f.0 in
         rw ((refused_or_valid n xs es).1 fit.valid) (fit_candidates es cs ps marks (fit.few, fit.priced, f.1, λ i h. (fit.event i h, fit.silent i h, fit.new i h, fit.cheap i h)))
 
--- an answer without an error
-pub nothing : (o : Option Refusal) → Ok tt ≡ checked o → o ≡ None
-nothing None e = refl
-nothing (Some r) e = let z : ◌≡◌ {A = ℕ} 0 1 = cc in absurd (omega arith)
+-- what a selection's parts keep to
+pub fitted : (s : Selection) → Fit s.numbers.states s.numbers.arrows.now s.numbers.events.now s.candidates.now s.prices.now
+fitted s = ((refused_or_fit s.numbers.states s.numbers.arrows.now s.numbers.events.now s.candidates.now s.prices.now (length s.candidates.now)).0 (none_by _ s.fit)).0
+
+-- numbers that are not turned away make a selection
+pub selected : (n : ℕ) (xs es cs ps : List ℕ) (marks : ℕ) → choice_refusal n xs es cs ps marks ≡ None → (marks ≡ length cs) × (is_some (choice_refusal n xs es cs ps (length cs)) ≡ false)
+selected n xs es cs ps marks e =
+    let fit = (refused_or_fit n xs es cs ps marks).0 e in
+    (fit.1, ap is_some ((refused_or_fit n xs es cs ps (length cs)).1 (fit.0, refl)))

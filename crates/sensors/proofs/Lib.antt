@@ -5,4 +5,3 @@ mod Counting
 mod Padding
 mod Deciding
 mod Choosing
-mod Keeping

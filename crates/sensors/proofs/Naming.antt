@@ -1,34 +1,27 @@
 -- Searches through candidates. Assumes nothing.
-use Rattle.std.proofs.Common.{◌≡◌, ℕ, suc, ◌+◌, ◌-◌, ◌<◌, ◌≤◌, Bool, true, false, ◌||◌, List, length, get_or, drop, Some, None, refl, ap, ◌∙◌, arith}
-use Rattle.std.proofs.lemmas.List.{at_drop_more, at_drop_all}
-use Rattle.std.proofs.lemmas.Bool.{eq-eqb, ne_eqb}
-use Rattle.sensors.specs.Candidates.{named, first_where}
+use Rattle.std.proofs.Common.{◌≡◌, ℕ, zero, suc, ◌+◌, ◌<◌, ◌≤◌, Bool, true, false, cond, Option, Some, None, MatchOption, sym, refl, ap, ◌∙◌, ⊎_elim, true≢false, arith}
+use Rattle.std.proofs.lemmas.Bool.{cases_eq}
+use Rattle.sensors.specs.Candidates.{first_where}
 
-module _ (e : ℕ) (xs : List ℕ) (i : ℕ) where
-  pub named_here : i < length xs → get_or xs i 0 ≡ e → named e (drop i xs) ≡ true
-  unfolding named
-  named_here h same = at_drop_more (named e) xs i 0 h ∙ ap (λ (b : Bool). b || named e (drop (i + 1) xs)) (eq-eqb (get_or xs i 0) e same)
+-- the first of n indices from i on that passes, said of the indices
+abbrev pub IsFirst : (test : ℕ → Bool) (i n : ℕ) → Option ℕ → Type 0
+IsFirst test i n r =
+    MatchOption r ((k : ℕ) → i ≤ k → k < n → test k ≡ false) (λ j. (i ≤ j) × (j < n) × (test j ≡ true) × ((k : ℕ) → i ≤ k → k < j → test k ≡ false))
 
-  pub named_later : i < length xs → (get_or xs i 0 ≡ e → ⊥) → named e (drop i xs) ≡ named e (drop (i + 1) xs)
-  unfolding named
-  named_later h other = at_drop_more (named e) xs i 0 h ∙ ap (λ (b : Bool). b || named e (drop (i + 1) xs)) (ne_eqb (get_or xs i 0) e other)
+first_from : (test : ℕ → Bool) (i n m : ℕ) (r : Option ℕ) → i + n ≡ m → IsFirst test i m r → r ≡ first_where test i n
+unfolding first_where
+first_from test i zero m None e none = refl
+first_from test i zero m (Some j) e f = absurd (omega (arith, f.0, f.1))
+first_from test i (suc n) m None e none =
+    let here : test i ≡ false = none i (omega arith) (omega arith) in
+    rw here (first_from test (suc i) n m None (omega arith) (λ k le lt. none k (omega arith) lt))
+first_from test i (suc n) m (Some j) e f = by_case (test i) refl (λ k. first_from test (suc i) n m (Some j) (omega arith) k)
+  where
+    by_case : (b : Bool) → test i ≡ b → (IsFirst test (suc i) m (Some j) → Some j ≡ first_where test (suc i) n) → Some j ≡ cond b (Some i) (first_where test (suc i) n)
+    by_case true t below = ⊎_elim (λ eq. ap Some eq) (λ ne. absurd (true≢false (sym t ∙ f.3 i (omega arith) (omega (arith, f.0))))) (cases_eq j i)
+    by_case false t below =
+        let apart : i ≡ j → ⊥ = λ eq. true≢false (sym f.2 ∙ ap test (sym eq) ∙ t) in
+        below (omega (arith, f.0), f.1, f.2, λ k le lt. f.3 k (omega arith) lt)
 
-  pub named_nowhere : length xs ≤ i → named e (drop i xs) ≡ false
-  unfolding named
-  named_nowhere h = at_drop_all (named e) xs i h
-
-module _ (test : ℕ → Bool) (i n : ℕ) where
-  pub first_here : i < n → test i ≡ true → first_where test i (n - i) ≡ Some i
-  unfolding first_where
-  first_here h t = let s : n - i ≡ suc (n - (i + 1)) = omega arith in rw (s, t) refl
-
-  pub first_later : i < n → test i ≡ false → first_where test i (n - i) ≡ first_where test (i + 1) (n - (i + 1))
-  unfolding first_where
-  first_later h t =
-      let s : n - i ≡ suc (n - (i + 1)) = omega arith in
-      let k : suc i ≡ i + 1 = omega arith in
-      rw (s, t, k) refl
-
-  pub first_nowhere : n ≤ i → first_where test i (n - i) ≡ None
-  unfolding first_where
-  first_nowhere h = let z : n - i ≡ 0 = omega arith in rw z refl
+pub first_is : (test : ℕ → Bool) (n : ℕ) (r : Option ℕ) → IsFirst test 0 n r → r ≡ first_where test 0 n
+first_is test n r = first_from test 0 n n r (omega arith)

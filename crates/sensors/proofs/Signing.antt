@@ -1,5 +1,7 @@
 -- Signs of their own for the chosen candidates. Assumes nothing.
-use Rattle.std.proofs.Common.{◌≡◌, ℕ, zero, suc, ◌+◌, ◌*◌, ◌<◌, ◌≤◌, Bool, true, false, ◌&&◌, ◌||◌, eqb, ◌≢◌, List, [], ◌∷◌, map, length, get_or, take, set, sym, refl, ap, ◌∙◌, subst, ⊎_elim, true≢false, add-one, arith, length-set}
+use Rattle.std.proofs.Common.{◌≡◌, ℕ, zero, suc, ◌+◌, ◌*◌, ◌/◌, ◌<◌, ◌≤◌, Bool, true, false, ◌&&◌, ◌||◌, eqb, ◌≢◌, List, [], ◌∷◌, map, length, get_or, take, set, Option, Some, None, MatchBool, MatchOption, sym, refl, ap, ◌∙◌, subst, ⊎_elim, true≢false, add-one, arith, length-set}
+use Rattle.std.specs.List.{AllWithin, HoldsAt, range_with_len}
+use Rattle.std.proofs.lemmas.List.FromFn.{length-range_with_len, get_or-range_with_len}
 use Rattle.graph.specs.Member.{Among, here, there}
 use Rattle.graph.proofs.Member.{Distinct, none, more, distinct_length, among_cases, among_map, none_among, length-map}
 use Rattle.plant.proofs.States.{below, length-below, among_below}
@@ -8,9 +10,25 @@ use Rattle.std.proofs.lemmas.Bool.{eqb-true, eqb-false, or_parts, or_cases, case
 use Rattle.sensors.specs.Candidates.{chosen}
 use Rattle.sensors.specs.Signs.{InUse, Unused, Given, Signed}
 
--- the signs so far and one more are in use
-pub use_more : (es : List ℕ) (s : ℕ) → ((o : ℕ) → 1 ≤ o → o < s → InUse es o) → InUse es s → (o : ℕ) → 1 ≤ o → o < s + 1 → InUse es o
-use_more es s before here' o some h = ⊎_elim (λ lt. before o some lt) (λ le. subst (InUse es) (omega arith) here') (cases_lt o s)
+-- some event shows the sign, or none does
+pub shown_by : (es : List ℕ) (s n : ℕ) → n ≡ length es / 2 → (r : Bool)
+    → MatchBool r ((k : ℕ) × (k < length (range_with_len 0 n)) × HoldsAt (λ e. get_or es (2 * e) 0 ≡ s) (range_with_len 0 n) k) (AllWithin (λ e. get_or es (2 * e) 0 ≢ s) (range_with_len 0 n) 0 (length (range_with_len 0 n)))
+    → MatchBool r (InUse es s) (InUse es s → ⊥)
+shown_by es s n size true some =
+    let long = length-range_with_len 0 n in
+    let at : get_or (range_with_len 0 n) some.0 0 ≡ some.0 = get_or-range_with_len 0 n some.0 0 (omega (arith, some.1)) ∙ omega arith in
+    (some.0, omega (arith, some.1), rw at at (some.2 0))
+shown_by es s n size false out = λ u.
+    let long = length-range_with_len 0 n in
+    let at : get_or (range_with_len 0 n) u.0 0 ≡ u.0 = get_or-range_with_len 0 n u.0 0 (omega (arith, u.1)) ∙ omega arith in
+    (rw at at (out u.0 0 (omega arith) (omega (arith, u.1)))) u.2
+
+-- the first sign of which none does
+pub unused_by : (es : List ℕ) (r : Option ℕ)
+    → MatchOption r ((o : ℕ) → 1 ≤ o → o < 256 → InUse es o) (λ o. (1 ≤ o) × (o < 256) × (InUse es o → ⊥) × ((k : ℕ) → 1 ≤ k → k < o → InUse es k))
+    → MatchOption r ((o : ℕ) → 1 ≤ o → o < 256 → InUse es o) (Unused es)
+unused_by es None all = all
+unused_by es (Some o) f = record { some = f.0; small = omega (arith, f.1); free = f.2; least = f.3 }
 
 -- numbers below n are all different
 among_small : (n k : ℕ) → Among k (below n) → k < n
@@ -136,19 +154,18 @@ signed_as es r a b same s = record {
   own = λ e d h. s.own e d (sym (same e) ∙ h);
 }
 
-module _ (es r cs ms : List ℕ) (i : ℕ) (there' : i < length cs) (so_far : Signed es (chosen (take i cs) ms) r) where
-  pub signed_more : (r₁ : List ℕ) → length r ≡ 128 → get_or cs i 0 < 64 → get_or ms i 0 ≡ 1 → Given r (get_or cs i 0) r₁ → Signed es (chosen (take (i + 1) cs) ms) r₁
-  signed_more r₁ size small mark given =
-      rw add-one (signed_as es r₁ _ _ (λ e. sym (same e)) (signed_given es r r₁ _ (get_or cs i 0) size small so_far given))
-    where
-      same : (e : ℕ) → (chosen (take i cs) ms e || eqb (get_or cs i 0) e) ≡ chosen (take (suc i) cs) ms e
-      same e = ap (λ (m : ℕ). chosen (take i cs) ms e || (eqb m 1 && eqb (get_or cs i 0) e)) (sym mark) ∙ chosen_more cs ms i e there'
+-- after i candidates the next is c, with mark m
+module _ (es r cs ms : List ℕ) (i c m n : ℕ) (there' : i < length cs) (is : c ≡ get_or cs i 0) (mark : m ≡ get_or ms i 0) (next : n ≡ i + 1) (so_far : Signed es (chosen (take i cs) ms) r) where
+  same : (e : ℕ) → (chosen (take i cs) ms e || (eqb m 1 && eqb c e)) ≡ chosen (take n cs) ms e
+  same e = rw (is, mark, next, add-one) (chosen_more cs ms i e there')
 
-  pub signed_kept : (get_or ms i 0 ≡ 1 → ⊥) → Signed es (chosen (take (i + 1) cs) ms) r
-  signed_kept mark = rw add-one (signed_as es r _ _ (λ e. sym (same e)) so_far)
-    where
-      same : (e : ℕ) → chosen (take i cs) ms e ≡ chosen (take (suc i) cs) ms e
-      same e = or_none (chosen (take i cs) ms e) ∙ ap (λ (b : Bool). chosen (take i cs) ms e || (b && eqb (get_or cs i 0) e)) (sym (ne_eqb (get_or ms i 0) 1 mark)) ∙ chosen_more cs ms i e there'
+  pub signed_more : (r₁ : List ℕ) → length r ≡ 128 → c < 64 → m ≡ 1 → Given r c r₁ → Signed es (chosen (take n cs) ms) r₁
+  signed_more r₁ size small one given =
+      signed_as es r₁ _ _ (λ e. sym (ap (λ (k : ℕ). chosen (take i cs) ms e || (eqb k 1 && eqb c e)) (sym one) ∙ same e)) (signed_given es r r₁ _ c size small so_far given)
+
+  pub signed_kept : (m ≡ 1 → ⊥) → Signed es (chosen (take n cs) ms) r
+  signed_kept not-one =
+      signed_as es r _ _ (λ e. sym (or_none (chosen (take i cs) ms e) ∙ ap (λ (b : Bool). chosen (take i cs) ms e || (b && eqb c e)) (sym (ne_eqb m 1 not-one)) ∙ same e)) so_far
 
 -- before the first
 pub signed_none : (es cs ms : List ℕ) → Signed es (chosen (take 0 cs) ms) es

@@ -1,5 +1,6 @@
 -- Events that might be made to show something, sets of them, what these cost, and which candidates are turned away. These are definitions and a statement; they assume nothing.
 use Rattle.std.specs.Prelude.{◌≡◌, ℕ, zero, suc, ◌+◌, ◌*◌, ◌/◌, ◌<◌, ◌≤◌, Bool, false, cond, not, ◌&&◌, ◌||◌, List, [], ◌∷◌, length, take, Some, None, Option, ◌==◌, nat_le, nat_lt, slice_index}
+use Rattle.std.specs.List.{list_any}
 use Rattle.std.specs.Option.{option_map}
 use Rattle.plant.specs.declared.parts.Refusal.{Refusal}
 use Rattle.plant.specs.declared.parts.Refusal.TheVariants.{Candidates}
@@ -19,9 +20,8 @@ cost (p ∷ ps) [] = 0
 cost (p ∷ ps) (m ∷ ms) = cond (m == 1) p 0 + cost ps ms
 
 -- whether the event is one of these
-unfoldable pub named : ℕ → List ℕ → Bool
-named e [] = false
-named e (c ∷ cs) = c == e || named e cs
+abbrev pub named : ℕ → List ℕ → Bool
+named e cs = list_any (λ c. c == e) cs
 
 -- at index i: the candidate is no event, shows something or was named before, or the price is 2^32 or more
 unfoldable pub unfit : (events candidates prices : List ℕ) → ℕ → Bool

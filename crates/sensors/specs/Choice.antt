@@ -1,12 +1,8 @@
 -- What a choice says of a plant, its candidates, and the row of marks that was lent. These are definitions and assume nothing.
 use Rattle.std.specs.Prelude.{◌≡◌, ℕ, ◌≤◌, List, length, Some, None, Option}
 use Rattle.std.specs.List.{AllByRecursion}
-use Rattle.plant.specs.declared.parts.Refusal.{Refusal}
 use Rattle.plant.specs.Plant.{Plant, ComesOut}
-use Rattle.plant.specs.Refusals.{number_of}
 use Rattle.views.specs.Shown.{Shown}
-use Rattle.sensors.specs.declared.choice.Choice.{Choice}
-use Rattle.sensors.specs.declared.choice.Choice.TheVariants.{Cheapest, NoneDoes, Turned}
 use Rattle.sensors.specs.Candidates.{chosen, cost}
 
 -- the marks choose a cheapest set, which costs the sum: with it shown, by any signs of its own (there are some), every fault comes out; and no set with which it does, by any signs, costs less
@@ -30,11 +26,9 @@ pub record OneChoice (p : Plant) (cs ps : List ℕ) : Type 0 where
 abbrev pub ChoiceOne : Type 0
 ChoiceOne = (p : Plant) (cs ps : List ℕ) → OneChoice p cs ps
 
--- by the refusal that there is, if there is one: what each choice says
--- cheapest: the marks in the row choose a set of this sum
--- none does: no set does, and the row is as it was
--- turned away: by the rule of this number, and the row is as it was
-abbrev pub ChoiceSays : Option Refusal → Plant → (candidates prices marks : List ℕ) → Choice → (marks₁ : List ℕ) → Type 0
-ChoiceSays refused p cs ps marks (Cheapest sum) marks₁ = (refused ≡ None) × CheapestSet p cs ps marks₁ sum
-ChoiceSays refused p cs ps marks NoneDoes marks₁ = (refused ≡ None) × (marks₁ ≡ marks) × NoSet p cs
-ChoiceSays refused p cs ps marks (Turned f) marks₁ = (marks₁ ≡ marks) × ((r : Refusal) × (refused ≡ Some r) × (f ≡ number_of r))
+-- what each choice says
+-- some: the marks in the row choose a cheapest set, of this sum
+-- none: no set does, and the row is as it was
+abbrev pub ChoiceSays : Plant → (candidates prices marks : List ℕ) → Option ℕ → (marks₁ : List ℕ) → Type 0
+ChoiceSays p cs ps marks (Some sum) marks₁ = CheapestSet p cs ps marks₁ sum
+ChoiceSays p cs ps marks None marks₁ = (marks₁ ≡ marks) × NoSet p cs

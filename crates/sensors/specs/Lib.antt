@@ -2,4 +2,3 @@ pub mod Candidates
 pub mod Choice
 pub mod Sets
 pub mod Signs
-pub mod Walls

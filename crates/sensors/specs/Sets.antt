@@ -1,20 +1,16 @@
 -- Sets of candidates as numbers, and the cheapest so far. These are definitions and assume nothing.
-use Rattle.std.specs.Prelude.{◌≡◌, ℕ, zero, suc, ◌/◌, ◌%◌, ◌<◌, ◌≤◌, Bool, List, [], ◌∷◌, slice_index}
-use Rattle.plant.specs.Numbers.{plant_in}
+use Rattle.std.specs.Prelude.{◌≡◌, ℕ, zero, suc, ◌/◌, ◌%◌, ◌<◌, ◌≤◌, Bool, List, [], ◌∷◌, All}
+use Rattle.plant.specs.Checked.{behaviour}
 use Rattle.plant.specs.Plant.{Plant, ComesOut}
 use Rattle.views.specs.Shown.{Shown}
-use Rattle.sensors.specs.declared.failed.Failed.{Failed}
 use Rattle.sensors.specs.declared.selection.Best.{Best}
 use Rattle.sensors.specs.declared.selection.Known.{Known}
 use Rattle.sensors.specs.declared.selection.Selection.{Selection}
-use Rattle.sensors.specs.Candidates.{Fit, chosen, cost}
+use Rattle.sensors.specs.Candidates.{chosen, cost}
 
--- what it asks of its parts, and the plant that they stand for
-abbrev pub Fitted : Selection → Type 0
-Fitted s = Fit s.states s.arrows.now s.events.now s.candidates.now s.prices.now
-
+-- the plant that its parts stand for
 abbrev pub plant_of : Selection → Plant
-plant_of s = plant_in s.arrows.now s.events.now
+plant_of s = behaviour s.numbers
 
 -- the marks of the set of that number: its digits to the base 2, the lowest first
 unfoldable pub digits : (count set : ℕ) → List ℕ
@@ -45,15 +41,15 @@ abbrev pub NoLess : Plant → (cs ps : List ℕ) → Best → ℕ → Type 0
 NoLess p cs ps b s = (q : Plant) → Shown p (chosen_by cs s) q → ComesOut q → b.sum ≤ cost_by ps s
 
 -- none of the sets that are kept does
-pub record Failing (p : Plant) (cs : List ℕ) (f : Failed) : Type 0 where
-  pub never : (k : ℕ) → k < f.count → Never p (chosen_by cs (slice_index f.sets k))
+abbrev pub Failing : Plant → (cs sets : List ℕ) → Type 0
+Failing p cs sets = All (λ s. Never p (chosen_by cs s)) sets
 
 -- what is known once the set is tried too
 pub record Better (p : Plant) (cs ps : List ℕ) (old : Known) (s : ℕ) (now' : Known) : Type 0 where
   pub sound : Sound p cs ps now'.best
   pub below : now'.best.sum ≤ old.best.sum
   pub here : NoLess p cs ps now'.best s
-  pub failing : Failing p cs now'.failed
+  pub failing : Failing p cs now'.failed.items
 
 -- no set of a number below costs less
 pub record BestOf (p : Plant) (cs ps : List ℕ) (n : ℕ) (b : Best) : Type 0 where

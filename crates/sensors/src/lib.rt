@@ -2,9 +2,7 @@
 #![tactic(auto)]
 
 mod checks;
-mod choice;
 mod entry;
-mod failed;
 mod selection;
 mod signs;
 mod subsets;
@@ -13,7 +11,6 @@ mod tests;
 mod theorems;
 
 pub use checks::check;
-pub use choice::Choice;
 pub use entry::choose;
 pub use signs::unused;
 pub use theorems::{choice_one, refused_or_fit};

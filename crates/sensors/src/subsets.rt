@@ -1,7 +1,7 @@
 // Sets of candidates as numbers: digit i to the base 2 is the mark of candidate i.
 ghost use Rattle.std.specs.Prelude.{◌≡◌, ℕ, ◌*◌, ◌<◌, ◌≤◌, length, slice_index};
 ghost use Rattle.sensors.specs.Candidates.{cost};
-ghost use Rattle.sensors.specs.Sets.{cost_by, digits};
+ghost use Rattle.sensors.specs.Sets.{digits};
 
 pub const MOST_CANDIDATES: usize = 12;
 
@@ -17,28 +17,16 @@ pub fn write(set: u16, marks: &mut [u8])
 }
 
 // The sum of the prices that are marked.
-fn total(prices: &[u64], marks: &[u8]) -> u64
+pub fn total(prices: &[u64], marks: &[u8]) -> u64
     requires few { length prices.now ≤ 12 }
     requires marked { length prices.now ≤ length marks.now }
     requires cheap { (i : ℕ) → i < length prices.now → slice_index prices.now i < 4294967296 }
     ensures { result ≡ cost prices.now marks.now }
 {
-    let mut sum = 0;
-    for i in 0..prices.len() {
-        if marks[i] == 1 {
-            sum += prices[i];
-        }
-    }
-    sum
-}
-
-// The sum of the prices of the set.
-pub fn price(prices: &[u64], set: u16) -> u64
-    requires few { length prices.now ≤ 12 }
-    requires cheap { (i : ℕ) → i < length prices.now → slice_index prices.now i < 4294967296 }
-    ensures { result ≡ cost_by prices.now set }
-{
-    let mut marks = [0u8; MOST_CANDIDATES];
-    write(set, &mut marks);
-    total(prices, &marks)
+    prices
+        .iter()
+        .zip(marks)
+        .filter(|(_, mark)| **mark == 1)
+        .map(|(price, _)| *price)
+        .sum()
 }

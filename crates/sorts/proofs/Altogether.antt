@@ -1,5 +1,5 @@
 -- One sort and faults altogether. Assumes nothing.
-use Rattle.std.proofs.Common.{◌≡◌, ℕ, zero, suc, ◌+◌, ◌*◌, ◌%◌, ◌<◌, ◌≤◌, Bool, true, false, cond, ◌||◌, eqb, ◌⊎◌, List, [], ◌∷◌, ◌++◌, length, get_or, sym, refl, ◌∙◌, inl, inr, ⊎_elim, arith}
+use Rattle.std.proofs.Common.{◌≡◌, ℕ, ◌+◌, ◌*◌, ◌≤◌, Bool, true, false, cond, ◌||◌, eqb, ◌⊎◌, List, [], ◌∷◌, ◌++◌, length, get_or, sym, refl, ◌∙◌, inl, inr, ⊎_elim, arith}
 use Rattle.std.proofs.lemmas.List.{get_or_past}
 use Rattle.std.proofs.lemmas.Bool.{cases_eq, cases_lt, eq-eqb, eqb-true, false≢true, lt-ltb, ltb-false, ltb-true, ne_eqb, or_cases, or_left, or_parts, or_right}
 use Rattle.graph.specs.Member.{Among, there}
@@ -9,6 +9,7 @@ use Rattle.plant.specs.Plant.{Plant, Run, stands, goes, seen, faulty, May, Comes
 use Rattle.plant.specs.Numbers.{arrows_in}
 use Rattle.sorts.specs.declared.kinds.Faults.TheVariants.{Sort, Any}
 use Rattle.sorts.specs.Sorts.{is_fault, occurs, plant_of, sort_of}
+use Rattle.sorts.proofs.Looking.{occurs_here}
 use Rattle.sorts.specs.Theorems.{Alone, Greatest, OnlySort, arrows_of, with_arrows}
 
 -- a plant that shows the same and has at least the arrows
@@ -98,19 +99,9 @@ alone k xs es n some out late early t r bad long may =
     out late early t (run_there p q (λ e. refl) ways r) (sym (early_same k some es xs r late early refl) ∙ bad) long
     (may.0, may.1, run_there p q (λ e. refl) ways may.2, sym (same may.0) ∙ may.3 ∙ same (late ++ early), sym (fault_same k some es xs may.2) ∙ may.4)
 
--- a mark at an odd place occurs
-occurs_at : (es : List ℕ) (i : ℕ) → i % 2 ≡ 1 → i < length es → occurs (get_or es i 0) es ≡ true
-unfolding occurs
-occurs_at [] i odd h = absurd (omega arith)
-occurs_at (s ∷ []) zero odd h = absurd (omega arith)
-occurs_at (s ∷ []) (suc i) odd h = absurd (omega arith)
-occurs_at (s ∷ (m ∷ es)) zero odd h = absurd (omega arith)
-occurs_at (s ∷ (m ∷ es)) (suc zero) odd h = or_left _ _ (eq-eqb m m refl)
-occurs_at (s ∷ (m ∷ es)) (suc (suc i)) odd h = or_right _ _ (occurs_at es i (omega arith) (omega arith))
-
 sort_occurs : (es : List ℕ) (e : ℕ) → 1 ≤ sort_of es e → occurs (sort_of es e) es ≡ true
 sort_occurs es e some =
-    ⊎_elim (λ here. occurs_at es (2 * e + 1) (omega arith) here) (λ past. absurd (omega (arith, get_or_past es (2 * e + 1) 0 past))) (cases_lt (2 * e + 1) (length es))
+    ⊎_elim (λ here. occurs_here (sort_of es e) es (2 * e + 1) here (omega arith) refl) (λ past. absurd (omega (arith, get_or_past es (2 * e + 1) 0 past))) (cases_lt (2 * e + 1) (length es))
 
 -- a fault is of some sort
 record OfSort (xs es fs : List ℕ) : Type 0 where

@@ -1,30 +1,19 @@
--- Whether a mark occurs, looked for event by event. Assumes nothing.
-use Rattle.std.proofs.Common.{◌≡◌, ℕ, ◌+◌, ◌*◌, ◌<◌, ◌≤◌, true, false, List, [], ◌∷◌, length, get_or, drop, refl, ap, ◌∙◌, arith, length-drop}
-use Rattle.std.proofs.lemmas.List.{drop_more}
-use Rattle.std.proofs.lemmas.Bool.{eq-eqb, ne_eqb}
+-- Whether a mark occurs, looked for place by place. Assumes nothing.
+use Rattle.std.proofs.Common.{◌≡◌, ℕ, zero, suc, ◌%◌, ◌<◌, true, false, List, [], ◌∷◌, length, get_or, refl, arith}
+use Rattle.std.proofs.lemmas.Bool.{eq-eqb, ne_eqb, or_left, or_right}
 use Rattle.sorts.specs.Sorts.{occurs}
 
-module _ (k : ℕ) (es : List ℕ) (e : ℕ) where
-  next : 2 * e + 1 < length es → drop (2 * e) es ≡ get_or es (2 * e) 0 ∷ (get_or es (2 * e + 1) 0 ∷ drop (2 * (e + 1)) es)
-  next h =
-      let on : 2 * (e + 1) ≡ 2 * e + 1 + 1 = omega arith in
-      let first = drop_more es (2 * e) 0 (omega arith) in
-      let second = drop_more es (2 * e + 1) 0 h in
-      rw on (cc)
+pub occurs_here : (k : ℕ) (es : List ℕ) (i : ℕ) → i < length es → i % 2 ≡ 1 → get_or es i 0 ≡ k → occurs k es ≡ true
+unfolding occurs
+occurs_here k [] i h odd is = absurd (omega arith)
+occurs_here k (s ∷ []) zero h odd is = absurd (omega arith)
+occurs_here k (s ∷ []) (suc i) h odd is = absurd (omega arith)
+occurs_here k (s ∷ (m ∷ es)) zero h odd is = absurd (omega arith)
+occurs_here k (s ∷ (m ∷ es)) (suc zero) h odd is = or_left _ _ (eq-eqb m k is)
+occurs_here k (s ∷ (m ∷ es)) (suc (suc i)) h odd is = or_right _ _ (occurs_here k es i (omega arith) (omega arith) is)
 
-  pub occurs_here : 2 * e + 1 < length es → get_or es (2 * e + 1) 0 ≡ k → occurs k (drop (2 * e) es) ≡ true
-  unfolding occurs
-  occurs_here h is = ap (occurs k) (next h) ∙ rw (eq-eqb (get_or es (2 * e + 1) 0) k is)
-
-  pub occurs_later : 2 * e + 1 < length es → (get_or es (2 * e + 1) 0 ≡ k → ⊥) → occurs k (drop (2 * e) es) ≡ occurs k (drop (2 * (e + 1)) es)
-  unfolding occurs
-  occurs_later h not-k = ap (occurs k) (next h) ∙ rw (ne_eqb (get_or es (2 * e + 1) 0) k not-k)
-
-  short : (ys : List ℕ) → length ys ≤ 1 → occurs k ys ≡ false
-  unfolding occurs
-  short [] h = refl
-  short (s ∷ []) h = refl
-  short (s ∷ (m ∷ ys)) h = absurd (omega arith)
-
-  pub occurs_nowhere : length es ≤ 2 * e + 1 → occurs k (drop (2 * e) es) ≡ false
-  occurs_nowhere h = short (drop (2 * e) es) (omega (arith, length-drop (2 * e) es))
+pub occurs_nowhere : (k : ℕ) (es : List ℕ) → ((i : ℕ) → i < length es → i % 2 ≡ 1 → get_or es i 0 ≡ k → ⊥) → occurs k es ≡ false
+unfolding occurs
+occurs_nowhere k [] none = refl
+occurs_nowhere k (s ∷ []) none = refl
+occurs_nowhere k (s ∷ (m ∷ es)) none = rw (ne_eqb m k (λ e. none 1 (omega arith) (omega arith) e)) (occurs_nowhere k es (λ i h odd is. none (suc (suc i)) (omega arith) (omega arith) is))

@@ -2,6 +2,7 @@
 ghost use Rattle.std.specs.Prelude.{◌≡◌};
 ghost use Rattle.sorts.specs.Sorts.{is_fault};
 
+// No `Option` of a sort: `None` would read as no fault.
 #[derive(Clone, Copy, PartialEq, Eq)]
 pub enum Faults {
     // Those of this sort.

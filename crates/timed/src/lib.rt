@@ -1,23 +1,23 @@
 // The entries as functions whose answers are numbers, for measuring them beside plain Rust (bench/run), which links them by `timed_c`. They promise nothing of their own: bench/run compares each answer with plain Rust's before it measures.
+// They take a plant's numbers one by one, as callers in C lend them.
 #![tactic(auto)]
 
 use diagnosability::{Verdict, judge};
 use observer::{Follower, Word, follow};
-use plant::{Plant, check};
-use sensors::{Choice, choose};
+use plant::{Numbers, Plant};
+use sensors::choose;
 
-// A word as a number: bad, good, either, neither, refused.
+// A word as a number: bad, good, either, neither. Written out, since bench/run compares these numbers, in whatever order the words are declared.
 fn code(word: Word) -> u64 {
     match word {
         Word::Bad => 0,
         Word::Good => 1,
         Word::Either => 2,
         Word::Neither => 3,
-        Word::Refused(_) => 9,
     }
 }
 
-// One sign through the entry, which checks the plant.
+// One sign through the entry, which checks the plant: the word's number, or 9 where the sign is refused.
 pub fn timed_follow(
     states: u64,
     arrows: &[u16],
@@ -25,7 +25,15 @@ pub fn timed_follow(
     memory: &mut [u8],
     sign: u64,
 ) -> u64 {
-    code(follow(states, arrows, events, memory, sign))
+    let numbers = Numbers {
+        states,
+        arrows,
+        events,
+    };
+    match follow(numbers, memory, sign) {
+        Ok(word) => code(word),
+        Err(_) => 9,
+    }
 }
 
 fn signs_followed(plant: Plant, signs: &[u8]) -> u64 {
@@ -37,24 +45,30 @@ fn signs_followed(plant: Plant, signs: &[u8]) -> u64 {
     sum
 }
 
-fn all_signs<'a>(states: u64, arrows: &'a [u16], events: &'a [u16], signs: &[u8]) -> u64 {
-    match check(states, arrows, events) {
-        Ok(()) => signs_followed(Plant::new(states, arrows, events), signs),
+// Many signs through a follower, which checks the plant once: the words, folded into a number, or the number of the refusal.
+pub fn timed_signs(states: u64, arrows: &[u16], events: &[u16], signs: &[u8]) -> u64 {
+    let numbers = Numbers {
+        states,
+        arrows,
+        events,
+    };
+    match Plant::try_from(numbers) {
+        Ok(plant) => signs_followed(plant, signs),
         Err(refusal) => refusal.number(),
     }
 }
 
-// Many signs through a follower, which checks the plant once: the words, folded into a number.
-pub fn timed_signs(states: u64, arrows: &[u16], events: &[u16], signs: &[u8]) -> u64 {
-    all_signs(states, arrows, events, signs)
-}
-
-// A verdict as a number: the number of events, or 1,000,000 and more where a fault hides.
+// A verdict as a number: the number of events, 1,000,000 where a fault hides, 2,000,000 where there is none.
 pub fn timed_judge(states: u64, arrows: &[u16], events: &[u16], room: &mut [u16]) -> u64 {
-    match judge(states, arrows, events, room) {
-        Verdict::Out(events) => events,
-        Verdict::Hidden(_, _, _, _) => 1_000_000,
-        Verdict::Turned(_) => 2_000_000,
+    let numbers = Numbers {
+        states,
+        arrows,
+        events,
+    };
+    match judge(numbers, room) {
+        Ok(Verdict::Out(events)) => events,
+        Ok(Verdict::Hidden(_)) => 1_000_000,
+        Err(_) => 2_000_000,
     }
 }
 
@@ -67,9 +81,14 @@ pub fn timed_choose(
     prices: &[u64],
     marks: &mut [u8],
 ) -> u64 {
-    match choose(states, arrows, events, candidates, prices, marks) {
-        Choice::Cheapest(sum) => sum,
-        Choice::NoneDoes => u64::MAX,
-        Choice::Turned(number) => u64::MAX.saturating_sub(number),
+    let numbers = Numbers {
+        states,
+        arrows,
+        events,
+    };
+    match choose(numbers, candidates, prices, marks) {
+        Ok(Some(sum)) => sum,
+        Ok(None) => u64::MAX,
+        Err(refusal) => u64::MAX.saturating_sub(refusal.number()),
     }
 }

@@ -3,7 +3,7 @@ use Rattle.std.specs.Prelude.{ℕ, ◌+◌, ◌-◌, ◌/◌, ◌^◌, min, cond
 use Rattle.plant.specs.declared.parts.Refusal.{Refusal}
 use Rattle.plant.specs.declared.parts.Refusal.TheVariants.{States, Events, Arrows, Room, Text, Sorts, Candidates, Labelling}
 use Rattle.plant.specs.declared.parts.Refusal.TheVariants as kinds
-use Rattle.plant.specs.Refusals.{number_of, place_of}
+use Rattle.plant.specs.Refusals as refusals
 use Rattle.drawing.specs.declared.reads.ReadError.{ReadError}
 use Rattle.drawing.specs.declared.reads.ReadError.TheVariants.{Line, Memory}
 use Rattle.wording.specs.declared.troubles.Trouble.{Trouble}
@@ -32,9 +32,9 @@ wrong (Sorts n) = codes "the sorts of faults are 1 to 8"
 wrong (Candidates n) = codes "at most twelve events that show nothing have a price, each below 4294967296"
 wrong (Labelling n) = codes "at most six events are no faults"
 
--- the line for a refusal
+-- the line for a refusal: its rule and its place, and what is wrong
 abbrev pub turned_away : Refusal → List ℕ
-turned_away r = codes "turned away: " ++ (decimal (number_of r) ++ (codes " at " ++ (decimal (place_of r) ++ (codes " (" ++ (wrong r ++ codes ")")))))
+turned_away r = refusals.turned_away r ++ (codes " (" ++ (wrong r ++ codes ")"))
 
 abbrev pub trouble : Trouble → List ℕ
 trouble (Refused r) = turned_away r

@@ -6,5 +6,5 @@ mod sentences;
 mod troubles;
 
 pub use rows::{Row, name_of};
-pub use sentences::{Sentence, behind, front};
+pub use sentences::Sentence;
 pub use troubles::Trouble;

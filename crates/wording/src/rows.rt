@@ -8,10 +8,7 @@ use std::fmt;
 pub fn name_of(names: &[String], event: usize) -> &str
     ensures { result.now ≡ slice_index_or (map string_bytes names.now) event [] }
 {
-    if event >= names.len() {
-        return "";
-    }
-    names[event].as_str()
+    names.get(event).map_or("", |name| name.as_str())
 }
 
 // Events with the latest first, and the names of all events.
@@ -28,8 +25,8 @@ impl fmt::Display for Row<'_> {
         if self.events.is_empty() {
             return write!(f, " nothing");
         }
-        for i in (0..self.events.len()).rev() {
-            let name = name_of(self.names, self.events[i] as usize);
+        for event in self.events.iter().rev() {
+            let name = name_of(self.names, *event as usize);
             write!(f, " {name}")?;
         }
         Ok(())

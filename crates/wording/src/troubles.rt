@@ -54,15 +54,13 @@ impl From<ReadError> for Trouble {
 
 // What is wrong, in plain words.
 #[derive(Clone, Copy)]
-struct Wrong {
-    refusal: Refusal,
-}
+struct Wrong(Refusal);
 
 impl fmt::Display for Wrong {
-    ghost output = { λ x. Some (wrong x.refusal) };
+    ghost output = { λ x. Some (wrong x.0) };
 
     fn fmt<W: fmt::Write>(&self, f: &mut fmt::Formatter<W>) -> fmt::Result {
-        match self.refusal {
+        match self.0 {
             Refusal::States(_) => write!(f, "a plant has 1 to 32 states"),
             Refusal::Events(place) => {
                 let event = place / 2;
@@ -112,10 +110,8 @@ impl fmt::Display for Trouble {
     fn fmt<W: fmt::Write>(&self, f: &mut fmt::Formatter<W>) -> fmt::Result {
         match *self {
             Trouble::Refused(refusal) => {
-                let number = refusal.number();
-                let place = refusal.place();
-                let wrong = Wrong { refusal };
-                write!(f, "turned away: {number} at {place} ({wrong})")
+                let wrong = Wrong(refusal);
+                write!(f, "{refusal} ({wrong})")
             }
             Trouble::NoMemory => write!(f, "memory is wanting"),
         }

@@ -1,8 +1,9 @@
 // Whether numbers make a plant, by the first rule that turns them away. Numbers are lent to be read only, so they stay as they were.
 ghost use Rattle.std.specs.Prelude.{◌≡◌, ℕ, ◌+◌, ◌*◌, ◌/◌, ◌%◌, ◌<◌, ◌≤◌, List, [], ◌∷◌, length};
-ghost use Rattle.plant.specs.Checked.{checked};
-ghost use Rattle.plant.specs.Refusals.{first_over, states_refusal, events_refusal, arrows_refusal, refusal};
+ghost use Rattle.plant.specs.Checked.{checked, refusal_in};
+ghost use Rattle.plant.specs.Refusals.{first_over, states_refusal, events_refusal, arrows_refusal};
 
+use super::Numbers;
 use crate::parts::Refusal;
 
 const MOST_STATES: u64 = 32;
@@ -14,18 +15,13 @@ const MOST_EVENT_NUMBERS: usize = 128;
 const MOST_ARROW_NUMBERS: usize = 3072;
 
 // The index of the first number that is not below the limit of its place; the limits recur.
-fn first_over(numbers: &[u16], limits: &[u64]) -> Option<u64>
-    requires { 0 < length limits.now }
-    ensures { result ≡ first_over limits.now 0 numbers.now }
+pub fn first_over<const N: usize>(numbers: &[u16], limits: [u64; N]) -> Option<u64>
+    requires { 0 < N }
+    ensures { result ≡ first_over limits.entry 0 numbers.now }
 {
-    let mut place = 0;
     for (i, number) in numbers.iter().enumerate() {
-        if u64::from(*number) >= limits[place] {
+        if u64::from(*number) >= limits[i % N] {
             return Some(i as u64);
-        }
-        place += 1;
-        if place == limits.len() {
-            place = 0;
         }
     }
     None
@@ -51,16 +47,21 @@ fn check_events(events: &[u16]) -> Result<(), Refusal>
     if events.len() % 2 != 0 {
         return Err(Refusal::Events(events.len() as u64 - 1));
     }
-    match first_over(events, &[256, 2]) {
+    match first_over(events, [256, 2]) {
         Some(place) => Err(Refusal::Events(place)),
         None => Ok(()),
     }
 }
 
 // Part of an arrow, more than 1,024 arrows, or a state or an event that is not there.
-fn check_arrows(states: u64, arrows: &[u16], events: &[u16]) -> Result<(), Refusal>
-    ensures { result ≡ checked (arrows_refusal states arrows.now events.now) }
+fn check_arrows(numbers: Numbers) -> Result<(), Refusal>
+    ensures { result ≡ checked (arrows_refusal numbers.entry.states numbers.entry.arrows.now numbers.entry.events.now) }
 {
+    let Numbers {
+        states,
+        arrows,
+        events,
+    } = numbers;
     let rest = arrows.len() % 3;
     if rest != 0 {
         return Err(Refusal::Arrows((arrows.len() - rest) as u64));
@@ -68,17 +69,17 @@ fn check_arrows(states: u64, arrows: &[u16], events: &[u16]) -> Result<(), Refus
     if arrows.len() > MOST_ARROW_NUMBERS {
         return Err(Refusal::Arrows(MOST_ARROW_NUMBERS as u64));
     }
-    match first_over(arrows, &[states, events.len() as u64 / 2, states]) {
+    match first_over(arrows, [states, events.len() as u64 / 2, states]) {
         Some(place) => Err(Refusal::Arrows(place)),
         None => Ok(()),
     }
 }
 
 // Whether these numbers make a plant: an error is the first rule that turns them away.
-pub fn check(states: u64, arrows: &[u16], events: &[u16]) -> Result<(), Refusal>
-    ensures { result ≡ checked (refusal states arrows.now events.now) }
+pub fn check(numbers: Numbers) -> Result<(), Refusal>
+    ensures { result ≡ checked (refusal_in numbers.entry) }
 {
-    check_states(states)?;
-    check_events(events)?;
-    check_arrows(states, arrows, events)
+    check_states(numbers.states)?;
+    check_events(numbers.events)?;
+    check_arrows(numbers)
 }

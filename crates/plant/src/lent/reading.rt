@@ -1,22 +1,34 @@
 // What a plant is asked: how large it is, and its arrows and events one by one.
 ghost use Rattle.std.specs.Prelude.{◌≡◌, ℕ, ◌/◌, ◌<◌, ◌≤◌, length, None, MatchOption};
+ghost use Rattle.plant.specs.Checked.{PlantOf, refusal_in};
 ghost use Rattle.plant.specs.Model.{ArrowAt, EventAt, StepAt, event_count, model, steps};
-ghost use Rattle.plant.specs.Numbers.{arrows_in};
-ghost use Rattle.plant.specs.Refusals.{refusal};
 
-use super::Plant;
-use crate::parts::{Arrow, Event, Step};
+use super::checks::check;
+use super::{Numbers, Plant};
+use crate::parts::{Arrow, Event, Refusal, Step};
+
+// The plant of numbers, or the first rule that turns them away.
+impl<'a> TryFrom<Numbers<'a>> for Plant<'a> {
+    type Error = Refusal;
+
+    ghost try_from_gives = { PlantOf };
+
+    fn try_from(numbers: Numbers<'a>) -> Result<Plant<'a>, Refusal> {
+        check(numbers)?;
+        Ok(Plant::new(numbers))
+    }
+}
 
 impl<'a> Plant<'a> {
     // The plant of numbers that were checked.
-    pub fn new(states: u64, arrows: &'a [u16], events: &'a [u16]) -> Plant<'a>
-        requires { refusal states arrows.now events.now ≡ None }
-        ensures { (result.states ≡ states) × (result.arrows.now ≡ arrows.now) × (result.events.now ≡ events.now) }
+    pub fn new(numbers: Numbers<'a>) -> Plant<'a>
+        requires { refusal_in numbers ≡ None }
+        ensures { (result.states ≡ numbers.entry.states) × (result.arrows.now ≡ numbers.entry.arrows.now) × (result.events.now ≡ numbers.entry.events.now) }
     {
         Plant {
-            states,
-            arrows,
-            events,
+            states: numbers.states,
+            arrows: numbers.arrows,
+            events: numbers.events,
         }
     }
 
@@ -38,72 +50,48 @@ impl<'a> Plant<'a> {
     pub fn arrow_count(self) -> usize
         ensures { result ≡ length (model self.entry).arrows }
     {
-        count_arrows(self)
+        self.arrows.len() / 3
     }
 
     // Arrow `i`, if there are as many.
     pub fn arrow(self, i: usize) -> Option<Arrow>
         ensures { MatchOption result (length (model self.entry).arrows ≤ i) (ArrowAt self.entry i) }
     {
-        arrow_at(self, i)
+        if i >= self.arrows.len() / 3 {
+            return None;
+        }
+        Some(Arrow {
+            from: self.arrows[3 * i],
+            event: self.arrows[3 * i + 1],
+            to: self.arrows[3 * i + 2],
+        })
     }
 
     // Event `e`, if there are as many.
     pub fn event(self, e: usize) -> Option<Event>
         ensures { MatchOption result (event_count self.entry ≤ e) (EventAt self.entry e) }
     {
-        event_at(self, e)
+        if e >= self.events.len() / 2 {
+            return None;
+        }
+        Some(Event {
+            sign: self.events[2 * e] as u8,
+            fault: self.events[2 * e + 1] == 1,
+        })
     }
 
     // Arrow `i` with what its event shows and is, if there are as many arrows.
     pub fn step(self, i: usize) -> Option<Step>
         ensures { MatchOption result (length (steps self.entry) ≤ i) (StepAt self.entry i) }
     {
-        step_at(self, i)
+        let arrow = self.arrow(i)?;
+        let event = self.event(arrow.event as usize)?;
+        Some(Step {
+            from: arrow.from,
+            event: arrow.event,
+            sign: event.sign,
+            fault: event.fault,
+            to: arrow.to,
+        })
     }
-}
-
-fn count_arrows(plant: Plant) -> usize
-    ensures { result ≡ length (model plant.entry).arrows }
-{
-    plant.arrows.len() / 3
-}
-
-fn arrow_at(plant: Plant, i: usize) -> Option<Arrow>
-    ensures { MatchOption result (length (model plant.entry).arrows ≤ i) (ArrowAt plant.entry i) }
-{
-    if i >= plant.arrows.len() / 3 {
-        return None;
-    }
-    Some(Arrow {
-        from: plant.arrows[3 * i],
-        event: plant.arrows[3 * i + 1],
-        to: plant.arrows[3 * i + 2],
-    })
-}
-
-fn event_at(plant: Plant, e: usize) -> Option<Event>
-    ensures { MatchOption result (event_count plant.entry ≤ e) (EventAt plant.entry e) }
-{
-    if e >= plant.events.len() / 2 {
-        return None;
-    }
-    Some(Event {
-        sign: plant.events[2 * e] as u8,
-        fault: plant.events[2 * e + 1] == 1,
-    })
-}
-
-fn step_at(plant: Plant, i: usize) -> Option<Step>
-    ensures { MatchOption result (length (steps plant.entry) ≤ i) (StepAt plant.entry i) }
-{
-    let arrow = plant.arrow(i)?;
-    let event = plant.event(arrow.event as usize)?;
-    Some(Step {
-        from: arrow.from,
-        event: arrow.event,
-        sign: event.sign,
-        fault: event.fault,
-        to: arrow.to,
-    })
 }

@@ -4,13 +4,11 @@ ghost use Rattle.sets.specs.Sets.{bit};
 ghost use Rattle.sorts.specs.Held.{Chosen, numbers_in};
 ghost use Rattle.sorts.specs.Sorts.{is_fault, marked_by};
 
-use super::Marked;
+use super::{MOST_HELD, Marked};
 use crate::checks::check_plant;
 use crate::kinds::Faults;
-use plant::Refusal;
-
-// Two numbers for each of 64 events, and one more.
-const MOST_HELD: usize = 129;
+use arrayvec::ArrayVec;
+use plant::{Numbers, Refusal};
 
 // The number at a place: a sign stays, a mark becomes 1 if the event counts and 0 if not.
 fn number_at(faults: Faults, place: usize, number: u16) -> u16
@@ -19,18 +17,7 @@ fn number_at(faults: Faults, place: usize, number: u16) -> u16
     if place % 2 == 0 {
         return number;
     }
-    if faults.counts(number) { 1 } else { 0 }
-}
-
-fn mark(events: &[u16], faults: Faults) -> Marked
-    ensures { numbers_in result ≡ take 129 (marked_by faults events.now) }
-{
-    let count = events.len().min(MOST_HELD);
-    let mut numbers = [0; MOST_HELD];
-    for i in 0..count {
-        numbers[i] = number_at(faults, i, events[i]);
-    }
-    Marked { numbers, count }
+    u16::from(faults.counts(number))
 }
 
 impl Marked {
@@ -38,34 +25,39 @@ impl Marked {
     pub fn new(events: &[u16], faults: Faults) -> Marked
         ensures { numbers_in result ≡ take 129 (marked_by faults events.now) }
     {
-        mark(events, faults)
+        let held = &events[..events.len().min(MOST_HELD)];
+        let mut numbers = ArrayVec::new();
+        for (place, number) in held.iter().enumerate() {
+            numbers.push(number_at(faults, place, *number));
+        }
+        Marked { numbers }
     }
 
     // The numbers, to be lent on.
     pub fn events(&self) -> &[u16]
         ensures { result.now ≡ numbers_in self.now }
     {
-        &self.numbers[0..self.count]
+        self.numbers.as_slice()
     }
-}
 
-fn chosen(states: u64, arrows: &[u16], events: &[u16], faults: Faults) -> Result<Marked, Refusal>
-    ensures { Chosen faults states arrows.now events.now result }
-{
-    match check_plant(states, arrows, events, faults) {
-        Ok(()) => Ok(Marked::new(events, faults)),
-        Err(refusal) => Err(refusal),
+    // The numbers of a plant with these events.
+    pub fn numbers<'a>(&'a self, numbers: Numbers<'a>) -> Numbers<'a>
+        ensures states { result.states ≡ numbers.entry.states }
+        ensures arrows { result.arrows.now ≡ numbers.entry.arrows.now }
+        ensures events { result.events.now ≡ numbers_in self.now }
+    {
+        Numbers {
+            states: numbers.states,
+            arrows: numbers.arrows,
+            events: self.events(),
+        }
     }
 }
 
 // The events by which a plant is made in which just those that count are faults; an error is the first rule that turns the plant away.
-pub fn choose(
-    states: u64,
-    arrows: &[u16],
-    events: &[u16],
-    faults: Faults,
-) -> Result<Marked, Refusal>
-    ensures { Chosen faults states arrows.now events.now result }
+pub fn choose(numbers: Numbers, faults: Faults) -> Result<Marked, Refusal>
+    ensures { Chosen faults numbers.entry.states numbers.entry.arrows.now numbers.entry.events.now result }
 {
-    chosen(states, arrows, events, faults)
+    check_plant(numbers, faults)?;
+    Ok(Marked::new(numbers.events, faults))
 }

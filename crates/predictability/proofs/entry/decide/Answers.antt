@@ -1,6 +1,11 @@
-use Rattle.std.proofs.Common.{ℕ, min, refl, ap, ◌∙◌}
+use Rattle.std.proofs.Common.{ℕ, min, ap, ◌∙◌, rules}
+use Rattle.plant.specs.Model.{model}
+use Rattle.foretelling.specs.Foretelling.{Foretells}
 use Rattle.predictability.proofs.Deciding.{told}
 use Rattle.predictability.proofs.entry.decide.Goals as goal
 
-pub returns-in-None : goal.returns-in-None
-returns-in-None c = (refl, refl, told _ c.args.events_ahead c.args.plant.states c.least-events.result (c.least-events.ensures ∙ ap (λ (k : ℕ). min c.args.events_ahead k) c.states.ensures.value) c.in-None.ensures)
+pub returns-in_err-pair : goal.returns-in_err-pair
+returns-in_err-pair c =
+    let p = c.args.calmed.plant in
+    let all : Foretells (model p) c.args.ahead = told (model p) c.args.ahead p.states c.min-events.result (c.min-events.ensures ∙ ap (λ (k : ℕ). min c.args.ahead k) c.states.ensures.value) c.in_err-pair.ensures in
+    search rules

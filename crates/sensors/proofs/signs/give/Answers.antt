@@ -1,5 +1,9 @@
+use Rattle.std.proofs.Common.{ℕ, ◌≤◌, ◌<◌, rules}
+use Rattle.sensors.specs.Signs.{InUse}
 use Rattle.sensors.proofs.Signing.{crowded}
 use Rattle.sensors.proofs.signs.give.Goals as goal
 
-pub unreachable-requires : goal.unreachable-requires
-unreachable-requires c = absurd (crowded c.args.events.now c.requires.size c.in-None.ensures)
+pub unwrap-sign-requires : goal.unwrap-sign-requires
+unwrap-sign-requires c =
+    let some : ((o : ℕ) → 1 ≤ o → o < 256 → InUse c.args.events.now o) → ⊥ = λ all. crowded c.args.events.now c.requires.size all in
+    search rules

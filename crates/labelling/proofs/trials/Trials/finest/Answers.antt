@@ -11,12 +11,12 @@ loop-event-init c =
 
 pub own-requires : goal.own-requires
 own-requires c = record {
-  there = omega (arith, c.requires.whole_events);
-  few = omega (arith, few_signs (plant_of c.args.self) c.loop-event.event c.loop-event.row c.loop-event.invariant.0, c.requires.few_events);
+  there = omega (arith);
+  few = omega (arith, few_signs (plant_of c.args.self) c.loop-event.event c.loop-event.row c.loop-event.invariant.0);
 }
 
 pub loop-event-preserved : goal.loop-event-preserved
 unfolding plant_in
 loop-event-preserved c =
-    finest_more (plant_of c.args.self) c.loop-event.event c.own.result c.loop-event.row c.with-row.result (omega (arith, c.requires.few_events, c.loop-event.invariant.0.size)) c.loop-event.invariant.0 c.with-row.ensures.labels c.with-row.ensures.signs
-    (fault_in c.args.self.events.now c.loop-event.event) refl c.own.ensures c.loop-event.invariant.1
+    finest_more (plant_of c.args.self) c.loop-event.event c.own.result c.loop-event.row c.with-row.result (omega (arith, c.loop-event.invariant.0.size)) c.loop-event.invariant.0 c.with-row.ensures.labels c.with-row.ensures.signs
+    (fault_in c.args.self.numbers.events.now c.loop-event.event) refl c.own.ensures c.loop-event.invariant.1

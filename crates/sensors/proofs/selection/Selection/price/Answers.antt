@@ -1,8 +1,12 @@
 use Rattle.std.proofs.Common.{arith}
+use Rattle.sensors.proofs.Fitting.{fitted}
 use Rattle.sensors.proofs.selection.Selection.price.Goals as goal
 
-pub price-requires : goal.price-requires
-price-requires c = record {
-  few = omega (arith, c.requires.few, c.requires.priced);
-  cheap = λ i h. c.requires.cheap i (omega (arith, c.requires.priced));
-}
+pub total-requires : goal.total-requires
+total-requires c =
+    let fit = fitted c.args.self in
+    record {
+      few = omega (arith, fit.few, fit.priced);
+      marked = omega (arith, fit.few, fit.priced);
+      cheap = λ i h. fit.cheap i (omega (arith, fit.priced));
+    }

@@ -1,0 +1,3 @@
+mod Knotting
+pub mod Changed
+pub mod Passed
