@@ -10,8 +10,8 @@ use sorts::Faults;
 use std::alloc::{AllocError, Global};
 use wording::{Sentence, Trouble};
 
-// Eight places for each pair of 32 states.
-const ROOM: usize = 8192;
+// Room for the rows of every plant: eight places for each pair of 32 states.
+pub const ROOM: usize = 8192;
 
 // A verdict and the room where its rows stand.
 #[derive(Drop)]

@@ -12,7 +12,7 @@ mod valid;
 
 pub use checking::check;
 pub use following::follow;
-pub use judging::{judge, judge_for};
+pub use judging::{ROOM, judge, judge_for};
 pub use listening::Listener;
 pub use opening::open;
 pub use picturing::draw;

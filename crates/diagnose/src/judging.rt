@@ -1,11 +1,9 @@
 // Plants judged, a sentence for each.
 use crate::worked;
+use command::ROOM;
 use diagnosability::judge;
 use std::env::Args;
 use wording::Sentence;
-
-// Eight places for each pair of 32 states.
-const ROOM: usize = 8192;
 
 // One line for a plant, behind its label: its sentence on standard output, or why it is turned away on standard error; whether it was judged.
 fn print_judged(rt: &HostRuntime, name: &str, label: &str) -> anyhow::Result<bool> {

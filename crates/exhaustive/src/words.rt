@@ -2,7 +2,7 @@
 use crate::counts::Tally;
 use crate::runs::{Ends, Runs};
 use anyhow::{bail, ensure};
-use bare::{Plant, Set, Signs, marked};
+use bare::{Parts, Plant, Set, Signs, marked};
 use observer::{Word, follow};
 use plant::Refusal;
 
@@ -12,16 +12,13 @@ const UNSHOWN: u16 = 4;
 // Rows of up to so many signs are followed.
 const LENGTH: u16 = 3;
 
-// Follows the row from the beginning. The memory may hold anything before.
-fn follow_row(plant: Plant, row: Signs, memory: &mut [u8]) -> Result<Word, Refusal> {
-    let mut word = follow(plant.into(), memory, 0)?;
-    for later in (0..LENGTH).rev() {
-        let part = row.parts().nth(usize::from(later));
-        if let Some(sign) = part.and_then(Signs::last) {
-            word = follow(plant.into(), memory, u64::from(sign))?;
-        }
-    }
-    Ok(word)
+// Follows the row from the beginning, given as its parts, the longest first. The memory may hold anything before.
+fn follow_row(plant: Plant, mut parts: Parts, memory: &mut [u8]) -> Result<Word, Refusal> {
+    let Some(sign) = parts.next().and_then(Signs::last) else {
+        return follow(plant.into(), memory, 0);
+    };
+    follow_row(plant, parts, memory)?;
+    follow(plant.into(), memory, u64::from(sign))
 }
 
 // The states that are marked, if every mark is 0 or 1.
@@ -54,7 +51,7 @@ fn compare_row(
     memory: &mut [u8],
     tally: &mut Tally,
 ) -> anyhow::Result<()> {
-    let followed = follow_row(runs.plant, row, memory);
+    let followed = follow_row(runs.plant, row.parts(), memory);
     let Some(marks) = marked_ends(memory) else {
         bail!("follow leaves a mark that is neither 0 nor 1 after the signs {row}");
     };

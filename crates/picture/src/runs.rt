@@ -68,8 +68,10 @@ fn ends(edges: &[Edge], from: u64, row: &[u16]) -> StateSet {
 
 // A state that the run leads to and the way round leads back to.
 fn knot(edges: &[Edge], lasso: Lasso) -> Option<u64> {
-    let reached = ends(edges, 0, lasso.run);
-    (0..32u64).find(|state| has(reached, *state) && has(ends(edges, *state, lasso.round), *state))
+    ends(edges, 0, lasso.run)
+        .into_iter()
+        .map(u64::from)
+        .find(|state| has(ends(edges, *state, lasso.round), *state))
 }
 
 // For each number of events, the latest of a row, the states from which they lead to that state.

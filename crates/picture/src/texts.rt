@@ -43,10 +43,7 @@ fn style_of(silent: bool, fault: bool) -> &'static str
 fn event_of(events: &[Event], event: usize) -> Event
     ensures { kind result ≡ slice_index_or (map kind events.now) event no_kind }
 {
-    events.get(event).copied().unwrap_or(Event {
-        sign: None,
-        fault: false,
-    })
+    events.get(event).copied().unwrap_or_default()
 }
 
 // The line of an edge, by the names of all events and the events.

@@ -1,11 +1,11 @@
 -- What the entry's parts say, put together. Assumes nothing.
 use Rattle.std.proofs.Common.{◌≡◌, ℕ, min, List, None, ◌∙◌, subst}
-use Rattle.plant.specs.declared.lent.Plant.{Plant as Lent}
+use Rattle.plant.specs.declared.lent.Numbers.{Numbers}
+use Rattle.plant.specs.Checked.{behaviour, refusal_in}
 use Rattle.plant.specs.Model.{model}
 use Rattle.plant.specs.Numbers.{plant_in}
 use Rattle.plant.specs.Plant.{Plant}
 use Rattle.plant.specs.Refusals.{refusal}
-use Rattle.plant.proofs.Readings.{valid}
 use Rattle.plant.proofs.Valid.{refused_or_valid}
 use Rattle.foretelling.specs.Calm.{harmless, numbers}
 use Rattle.foretelling.specs.Foretelling.{Foretells}
@@ -19,11 +19,10 @@ use Rattle.predictability.specs.Calmed.{Calms}
 pub told : (p : Plant) (n states k : ℕ) → k ≡ min n states → AtLast p k → Foretells p n
 told p n states k e at = (last_moment p n).1 (least_alarm p states n (subst (AtLast p) e at))
 
-module _ (p : Lent) (xs es : List ℕ) (are : xs ≡ numbers (harmless (model p) (model p).arrows)) (same : es ≡ p.events.now) where
-  -- the numbers without the faults are turned away by no rule
-  pub accepted : (n : ℕ) → n ≡ p.states → refusal n xs es ≡ None
-  unfolding plant_in
-  accepted n e = rw (e, are, same) ((refused_or_valid p.states _ p.events.now).1 (calm_valid (model p) p.states p.arrows.now p.events.now (valid p)))
+-- the numbers without the faults are turned away by no rule
+pub accepted : (n : Numbers) (xs : List ℕ) → refusal_in n ≡ None → xs ≡ numbers (harmless (behaviour n) (behaviour n).arrows) → refusal n.states xs n.events.now ≡ None
+unfolding plant_in
+accepted n xs ok are = rw are ((refused_or_valid n.states _ n.events.now).1 (calm_valid (behaviour n) n.states n.arrows.now n.events.now ((refused_or_valid n.states n.arrows.now n.events.now).0 ok)))
 
 -- the one plant is the other without its faults
 pub calms : (c : Calmed) → Calms c.calm c.plant

@@ -1,5 +1,6 @@
 // A plant without its faults, over the numbers of the arrows that are none.
-ghost use Rattle.std.specs.Prelude.{◌≡◌};
+ghost use Rattle.std.specs.Prelude.{◌≡◌, None, Ok};
+ghost use Rattle.plant.specs.Checked.{PlantOf, behaviour, refusal_in};
 ghost use Rattle.plant.specs.Model.{model};
 ghost use Rattle.foretelling.specs.Calm.{harmless, numbers};
 
@@ -35,20 +36,16 @@ pub fn harmless_arrows(plant: Plant) -> ArrayVec<u16, MOST_ARROW_NUMBERS>
 }
 
 impl<'a> Calmed<'a> {
-    // The arrows that are no faults are lent, and the plant's events.
-    pub fn new(plant: Plant<'a>, arrows: &'a [u16], events: &'a [u16]) -> Calmed<'a>
-        requires arrows { arrows.now ≡ numbers (harmless (model plant) (model plant).arrows) }
-        requires events { events.now ≡ plant.events.now }
-        ensures { result.plant ≡ plant.entry }
+    // Of numbers that make a plant, and those of its arrows that are no faults.
+    pub fn new(lent: Numbers<'a>, arrows: &'a [u16]) -> Calmed<'a>
+        requires accepted { refusal_in lent ≡ None }
+        requires harmless { arrows.now ≡ numbers (harmless (behaviour lent) (behaviour lent).arrows) }
+        ensures { PlantOf lent.entry (Ok result.plant) }
     {
-        let numbers = Numbers {
-            states: plant.states(),
-            arrows,
-            events,
-        };
+        let calm = Numbers { arrows, ..lent };
         Calmed {
-            plant,
-            calm: Plant::new(numbers),
+            plant: Plant::new(lent),
+            calm: Plant::new(calm),
         }
     }
 }

@@ -27,8 +27,7 @@ pub fn foretell(numbers: Numbers, ahead: u64, room: &mut [u16]) -> Result<Option
     ensures { ForesightSays (judge_refusal numbers.entry.states numbers.entry.arrows.now numbers.entry.events.now (length room.old)) (behaviour numbers.entry) numbers.entry.states ahead room.old result room.new }
 {
     check(numbers, room.len() as u64)?;
-    let plant = Plant::new(numbers);
-    let arrows = harmless_arrows(plant);
-    let calmed = Calmed::new(plant, arrows.as_slice(), numbers.events);
+    let arrows = harmless_arrows(Plant::new(numbers));
+    let calmed = Calmed::new(numbers, arrows.as_slice());
     Ok(decide(calmed, ahead, room))
 }

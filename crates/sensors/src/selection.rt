@@ -43,8 +43,7 @@ impl<'a> Selection<'a> {
     fn does(self, set: u16) -> bool
         ensures { MatchBool result (Does (plant_of self.entry) (chosen_by self.entry.candidates.now set)) (Never (plant_of self.entry) (chosen_by self.entry.candidates.now set)) }
     {
-        let mut marks = [0u8; subsets::MOST_CANDIDATES];
-        subsets::write(set, &mut marks);
+        let marks = subsets::marks(set);
         let mut events = signs::padded(self.numbers.events);
         signs::show(&mut events, self.candidates, &marks);
         comes_out(Plant::new(Numbers {
@@ -58,9 +57,7 @@ impl<'a> Selection<'a> {
     fn price(self, set: u16) -> u64
         ensures { result ≡ cost_by self.entry.prices.now set }
     {
-        let mut marks = [0u8; subsets::MOST_CANDIDATES];
-        subsets::write(set, &mut marks);
-        subsets::total(self.prices, &marks)
+        subsets::total(self.prices, &subsets::marks(set))
     }
 
     // A set that does not do, with as many candidates more as do not help.

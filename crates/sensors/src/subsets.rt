@@ -16,6 +16,15 @@ pub fn write(set: u16, marks: &mut [u8])
     }
 }
 
+// The marks of the set, for as many candidates as there can be.
+pub fn marks(set: u16) -> [u8; MOST_CANDIDATES]
+    ensures { result ≡ digits 12 set }
+{
+    let mut marks = [0u8; MOST_CANDIDATES];
+    write(set, &mut marks);
+    marks
+}
+
 // The sum of the prices that are marked.
 pub fn total(prices: &[u64], marks: &[u8]) -> u64
     requires few { length prices.now ≤ 12 }

@@ -4,4 +4,4 @@ use Rattle.predictability.proofs.entry.foretell.Goals as goal
 
 pub decide-requires : goal.decide-requires
 decide-requires c =
-    simp (c.new-calmed.ensures, c.new-plant.ensures.0) (enough c.args.numbers.states c.args.numbers.arrows.now c.args.numbers.events.now (length c.args.room.now) c.in_ok-check.ensures)
+    simp c.new-calmed.ensures.0 (enough c.args.numbers.states c.args.numbers.arrows.now c.args.numbers.events.now (length c.args.room.now) c.in_ok-check.ensures)

@@ -19,11 +19,11 @@ show-requires c =
 
 pub new-requires : goal.new-requires
 new-requires c =
-    signed_accepted c.args.self.numbers.states c.args.self.numbers.arrows.now c.args.self.numbers.events.now c.padded-events.result c.show.new.events (chosen c.args.self.candidates.now c.write.new.marks) (fitted c.args.self).valid
+    signed_accepted c.args.self.numbers.states c.args.self.numbers.arrows.now c.args.self.numbers.events.now c.padded-events.result c.show.new.events (chosen c.args.self.candidates.now c.marks-marks.result) (fitted c.args.self).valid
     c.padded-events.ensures c.show.ensures
 
 pub returns : goal.returns
 returns c =
-    subst (λ (ms : List ℕ). MatchBool c.comes_out.result (Does (plant_of c.args.self) (chosen c.args.self.candidates.now ms)) (Never (plant_of c.args.self) (chosen c.args.self.candidates.now ms))) c.write.ensures
-    (decided c.args.self.numbers.states c.args.self.numbers.arrows.now c.args.self.numbers.events.now c.padded-events.result c.show.new.events (chosen c.args.self.candidates.now c.write.new.marks) (fitted c.args.self).valid
+    subst (λ (ms : List ℕ). MatchBool c.comes_out.result (Does (plant_of c.args.self) (chosen c.args.self.candidates.now ms)) (Never (plant_of c.args.self) (chosen c.args.self.candidates.now ms))) c.marks-marks.ensures
+    (decided c.args.self.numbers.states c.args.self.numbers.arrows.now c.args.self.numbers.events.now c.padded-events.result c.show.new.events (chosen c.args.self.candidates.now c.marks-marks.result) (fitted c.args.self).valid
     c.padded-events.ensures c.show.ensures c.comes_out.result (rw (c.new.ensures.1, c.new.ensures.2) at c.comes_out.ensures))
