@@ -1,6 +1,6 @@
 -- Marked events place by place, and the plant that they make. Assumes nothing.
-use Rattle.std.proofs.Common.{◌≡◌, ℕ, zero, suc, ◌+◌, ◌*◌, ◌%◌, ◌<◌, ◌≤◌, min, Bool, true, false, cond, eqb, List, [], ◌∷◌, ◌++◌, length, get_or, take, sym, refl, ap, ◌∙◌, ⊎_elim, arith}
-use Rattle.std.proofs.lemmas.List.{get_or_past, take_all, take_more}
+use Rattle.std.proofs.Common.{◌≡◌, ℕ, zero, suc, ◌+◌, ◌*◌, ◌%◌, ◌<◌, ◌≤◌, min, Bool, true, false, cond, eqb, List, [], ◌∷◌, ◌++◌, length, get_or, take, set, sym, refl, ap, ◌∙◌, ⊎_elim, arith}
+use Rattle.std.proofs.lemmas.List.{get_or_past, take_all, take_more, take_more_set}
 use Rattle.std.proofs.lemmas.Bool.{cases_lt}
 use Rattle.sets.specs.Sets.{bit}
 use Rattle.plant.specs.Numbers.{arrows_in, plant_in}
@@ -25,21 +25,22 @@ module _ (f : Faults) where
   marked_at (s ∷ (m ∷ es)) (suc (suc i)) h = let e : suc (suc i) % 2 ≡ i % 2 = omega arith in rw e (marked_at es i (omega arith))
 
   -- one number more is marked
-  pub marked_more : (es : List ℕ) (i v : ℕ) → i < length es → v ≡ cond (eqb (i % 2) 0) (get_or es i 0) (bit (is_fault f (get_or es i 0)))
-      → take i (marked_by f es) ++ (v ∷ []) ≡ take (i + 1) (marked_by f es)
-  marked_more es i v h is =
+  pub marked_more : (es numbers : List ℕ) (i v : ℕ) → i < length es → i < length numbers → take i numbers ≡ take i (marked_by f es)
+      → v ≡ cond (eqb (i % 2) 0) (get_or es i 0) (bit (is_fault f (get_or es i 0))) → take (i + 1) (set numbers i v) ≡ take (i + 1) (marked_by f es)
+  marked_more es numbers i v h room same is =
       let here : i < length (marked_by f es) = omega (arith, length_marked es) in
-      ap (λ (x : ℕ). take i (marked_by f es) ++ (x ∷ [])) (is ∙ sym (marked_at es i h)) ∙ sym (take_more (marked_by f es) i 0 here)
+      take_more_set numbers i v room ∙ ap (λ (ys : List ℕ). ys ++ (v ∷ [])) same
+      ∙ ap (λ (x : ℕ). take i (marked_by f es) ++ (x ∷ [])) (is ∙ sym (marked_at es i h)) ∙ sym (take_more (marked_by f es) i 0 here)
 
-  -- as many as there are, or 129
-  pub marked_all : (es : List ℕ) → take (min (length es) 129) (marked_by f es) ≡ take 129 (marked_by f es)
-  marked_all es =
+  -- all that are held are
+  pub marked_all : (es numbers : List ℕ) (count : ℕ) → count ≡ min (length es) 129 → take count numbers ≡ take count (marked_by f es) → take count numbers ≡ take 129 (marked_by f es)
+  marked_all es numbers count is same =
       ⊎_elim
-      (λ long. let whole : min (length es) 129 ≡ 129 = omega arith in ap (λ (k : ℕ). take k (marked_by f es)) whole)
+      (λ long. let whole : count ≡ 129 = omega arith in same ∙ ap (λ (k : ℕ). take k (marked_by f es)) whole)
       (λ short.
       let few : length (marked_by f es) ≤ 129 = omega (arith, length_marked es) in
-      let all : length (marked_by f es) ≤ min (length es) 129 = omega (arith, length_marked es) in
-      take_all (min (length es) 129) (marked_by f es) all ∙ sym (take_all 129 (marked_by f es) few))
+      let all : length (marked_by f es) ≤ count = omega (arith, length_marked es) in
+      same ∙ take_all count (marked_by f es) all ∙ sym (take_all 129 (marked_by f es) few))
       (cases_lt 129 (length es))
 
   sign_at : (es : List ℕ) (e : ℕ) → get_or (marked_by f es) (2 * e) 0 ≡ get_or es (2 * e) 0

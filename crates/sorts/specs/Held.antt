@@ -1,5 +1,5 @@
 -- Events of which the marks say only whether they count, held by value, and the plant that they make. These are definitions and assume nothing.
-use Rattle.std.specs.Prelude.{◌≡◌, ℕ, List, Some, None, Ok, Err, Result}
+use Rattle.std.specs.Prelude.{◌≡◌, ℕ, List, Some, None, Ok, Err, Result, take}
 use Rattle.plant.specs.declared.parts.Refusal.{Refusal}
 use Rattle.plant.specs.Numbers.{plant_in}
 use Rattle.plant.specs.Refusals.{refusal}
@@ -9,7 +9,7 @@ use Rattle.sorts.specs.Sorts.{marked_by, plant_of}
 use Rattle.sorts.specs.Refusals.{plant_refusal}
 
 abbrev pub numbers_in : Marked → List ℕ
-numbers_in m = m.numbers.items
+numbers_in m = take m.count m.numbers
 
 -- no rule refuses the plant, nor the numbers that are held, and these make the plant in which just the events that count are faults
 pub record Held (f : Faults) (n : ℕ) (xs es : List ℕ) (m : Marked) : Type 0 where

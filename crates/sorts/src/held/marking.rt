@@ -7,7 +7,6 @@ ghost use Rattle.sorts.specs.Sorts.{is_fault, marked_by};
 use super::{MOST_HELD, Marked};
 use crate::checks::check_plant;
 use crate::kinds::Faults;
-use arrayvec::ArrayVec;
 use plant::{Numbers, Refusal};
 
 // The number at a place: a sign stays, a mark becomes 1 if the event counts and 0 if not.
@@ -26,18 +25,21 @@ impl Marked {
         ensures { numbers_in result ≡ take 129 (marked_by faults events.now) }
     {
         let held = &events[..events.len().min(MOST_HELD)];
-        let mut numbers = ArrayVec::new();
+        let mut numbers = [0; MOST_HELD];
         for (place, number) in held.iter().enumerate() {
-            numbers.push(number_at(faults, place, *number));
+            numbers[place] = number_at(faults, place, *number);
         }
-        Marked { numbers }
+        Marked {
+            numbers,
+            count: held.len(),
+        }
     }
 
     // The numbers, to be lent on.
     pub fn events(&self) -> &[u16]
         ensures { result.now ≡ numbers_in self.now }
     {
-        self.numbers.as_slice()
+        &self.numbers[..self.count]
     }
 
     // The numbers of a plant with these events.
