@@ -1,4 +1,5 @@
 pub mod Cuts
+pub mod Lacking
 pub mod Names
 pub mod Numbers
 pub mod Texts

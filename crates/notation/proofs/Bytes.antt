@@ -4,12 +4,13 @@ use Rattle.std.specs.List.{list_all}
 use Rattle.std.specs.Char.{is_ascii_digit, is_ascii_alphabetic}
 use Rattle.std.specs.Str.{all_ascii_digits}
 use Rattle.std.proofs.lemmas.Fmt.{digits_decimal, digits_value-decimal, decimal_nonempty, length-decimal-le}
-use Rattle.std.proofs.lemmas.List.{get_or_past, take_all}
+use Rattle.std.proofs.lemmas.List.{get_or_past}
 use Rattle.std.proofs.lemmas.List.Folds.{list_all-append}
-use Rattle.std.proofs.lemmas.List.Sums.{AllPass-from_list_all, list_all-from_AllPass, position_or_len_is}
-use Rattle.std.proofs.lemmas.Bool.{ne_eqb, cases_lt, and_parts, and_from, lt-ltb, le-leb, ltb-true, false≢true}
+use Rattle.std.proofs.lemmas.List.Sums.{AllPass-from_list_all, list_all-from_AllPass}
+use Rattle.std.proofs.lemmas.Bool.{cases_lt, and_parts, and_from, lt-ltb, le-leb, ltb-true, false≢true}
 use Rattle.std.proofs.lemmas.Str.{IsUtf8-from_ascii}
 use Rattle.std.proofs.lemmas.Bool.Decides.{nat_tests}
+use Rattle.grammar.proofs.Lacking.{before_all}
 use Rattle.grammar.specs.Line.{Said, nothing, arrow, fault, shows, before_comment, name_byte, is_name, numeral, is_text, of_words, of_line}
 use Rattle.grammar.specs.Words.{blank, dark, words_from, words}
 use Rattle.grammar.proofs.Numbers.{own}
@@ -43,9 +44,7 @@ clean_low : (b : ℕ) → clean b ≡ true → b < 128
 clean_low b h = ltb-true b 128 (and_parts (ltb b 128) _ h).0
 
 pub no_comment : (l : List ℕ) → list_all clean l ≡ true → before_comment l ≡ l
-no_comment l h =
-    let all = position_or_len_is (λ b. eqb b 35) l (length l) 0 (omega arith) (λ k lt. ne_eqb _ 35 (not_35 _ (all_at clean l k h lt))) (λ lt. absurd (omega arith)) in
-    take_all _ l (omega (arith, all))
+no_comment l h = before_all l (λ k lt. not_35 _ (all_at clean l k h lt))
 
 pub one_line : (l : List ℕ) → list_all clean l ≡ true → list_all inside l ≡ true
 one_line l h = all_weaker clean inside clean-inside l h
