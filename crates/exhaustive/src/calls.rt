@@ -125,7 +125,7 @@ const LARGE: [u16; 7] = [2, 4, 33, 255, 256, 1_000, 65_535];
 fn spoil_number(random: &mut Random, numbers: &mut [u16]) {
     let number = random.pick_mut(numbers);
     let large = random.pick(&LARGE);
-    if let (Some(number), Some(large)) = (number, large) {
+    if let Some(number) = number {
         *number = large;
     }
 }
@@ -161,8 +161,8 @@ impl Call {
 
     // Damages one thing. Where nothing is left to damage it stays as it is.
     pub fn spoil(&mut self, random: &mut Random) {
-        if let Some(damage) = random.pick(&DAMAGES) {
-            self.suffer(damage, random);
+        if let Some(damage) = DAMAGES.get(random.place(DAMAGES.len())) {
+            self.suffer(*damage, random);
         }
     }
 

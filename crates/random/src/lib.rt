@@ -1,6 +1,8 @@
 // Random numbers that are the same at every run, for the programs that try what they make: Marsaglia's xorshift.
 #![tactic(auto)]
 
+ghost use Rattle.std.specs.Prelude.{◌<◌, ◌≡◌, ◌≢◌, [], Contains};
+
 #[derive(Drop)]
 pub struct Random {
     state: u64,
@@ -29,8 +31,10 @@ impl Random {
     }
 
     // A number below the bound, or 0 if there is none.
-    // No Option, which would be no plainer: all bounds here are above 0 but a list's length, and of no items `pick` finds none at place 0.
-    pub fn below(&mut self, bound: u16) -> u16 {
+    // No Option, which would be no plainer: all bounds here are above 0 but a list's length, and of no items there is none at place 0.
+    pub fn below(&mut self, bound: u16) -> u16
+        ensures { 0 < bound → result < bound }
+    {
         // The lowest bits of a xorshift are its weakest.
         let high = self.next() >> 20;
         let number = high.checked_rem(u64::from(bound)).unwrap_or(0);
@@ -47,10 +51,13 @@ impl Random {
         self.below(n) == 0
     }
 
-    // One of the items, if there is one.
-    pub fn pick<T: Copy>(&mut self, items: &[T]) -> Option<T> {
+    // One of the items, or their type's default if there are none.
+    pub fn pick<T: Copy + Default>(&mut self, items: &[T]) -> T
+        ensures among { items.now ≢ [] → Contains items.now result }
+        ensures empty { items.now ≡ [] → T.is_default result }
+    {
         let place = self.place(items.len());
-        items.get(place).copied()
+        items.get(place).copied().unwrap_or_default()
     }
 
     // One of the items to be written, if there is one.
@@ -60,7 +67,9 @@ impl Random {
     }
 
     // A place in a list of that length.
-    pub fn place(&mut self, length: usize) -> usize {
+    pub fn place(&mut self, length: usize) -> usize
+        ensures { 0 < length → result < length }
+    {
         usize::from(self.below(u16::try_from(length).unwrap_or(u16::MAX)))
     }
 }
