@@ -9,7 +9,6 @@ use answers::{Tally, compare};
 use bare::Plant;
 use plants::Drawn;
 use random::Random;
-use std::alloc::{AllocError, Global};
 use std::{fmt, io};
 
 const PLANTS: u32 = 3_000;
@@ -38,20 +37,20 @@ fn compare_plant(plant: Plant, tallies: &mut [Tally]) -> Option<u64> {
         .find_map(|tally| (!compare(plant, tally)).then_some(tally.ahead))
 }
 
-fn compare_plants(heap: Global, tallies: &mut [Tally]) -> Result<Option<Mismatch>, AllocError> {
+fn compare_plants(tallies: &mut [Tally]) -> Option<Mismatch> {
     let mut random = Random::default();
     for plant in 0..PLANTS {
-        let drawn = Drawn::random(heap, &mut random)?;
+        let drawn = Drawn::random(&mut random);
         if let Some(ahead) = compare_plant(drawn.plant(), tallies) {
-            return Ok(Some(Mismatch { plant, ahead }));
+            return Some(Mismatch { plant, ahead });
         }
     }
-    Ok(None)
+    None
 }
 
 fn main(rt: HostRuntime) -> io::Result<()> {
     let mut tallies = AHEAD.map(Tally::new);
-    if let Some(mismatch) = compare_plants(rt.alloc(), &mut tallies)? {
+    if let Some(mismatch) = compare_plants(&mut tallies) {
         return println!(rt; "{mismatch}");
     }
     println!(rt; "random plants: {PLANTS}")?;
