@@ -1,4 +1,5 @@
 // Plants whose answers are known.
+use crate::failure::Failure;
 use crate::refusals::{Rule, compare_follow, compare_judge};
 use crate::rooms::{first_part, least_room};
 use anyhow::ensure;
@@ -97,7 +98,7 @@ fn compare_case(
     Ok(())
 }
 
-fn compare_table(rt: &HostRuntime, room: &mut [u16]) -> anyhow::Result<()> {
+fn compare_table(rt: &HostRuntime, room: &mut [u16]) -> Result<(), Failure> {
     for case in CASES {
         let plant = Plant {
             states: case.states,
@@ -136,7 +137,7 @@ fn odometer(heap: Global, states: u16) -> Result<Vec<u16>, AllocError> {
     Ok(arrows)
 }
 
-fn compare_odometer(rt: &HostRuntime, states: u16, room: &mut [u16]) -> anyhow::Result<()> {
+fn compare_odometer(rt: &HostRuntime, states: u16, room: &mut [u16]) -> Result<(), Failure> {
     println!(rt; "odometer of {states} states")?;
     let arrows = odometer(rt.alloc(), states)?;
     let plant = Plant {
@@ -150,7 +151,8 @@ fn compare_odometer(rt: &HostRuntime, states: u16, room: &mut [u16]) -> anyhow::
         Verdict::Out(pairs.saturating_sub(1)),
         &[],
         first_part(room, least_room(states)),
-    )
+    )?;
+    Ok(())
 }
 
 // How large a plant is, and the rule that turns it away, if one does.
@@ -205,7 +207,7 @@ impl fmt::Display for Size {
 }
 
 // Both entries on a plant of that size: every arrow is event 0 from state 0 to itself.
-fn compare_size(heap: Global, size: Size, zeros: &[u16], room: &mut [u16]) -> anyhow::Result<()> {
+fn compare_size(heap: Global, size: Size, zeros: &[u16], room: &mut [u16]) -> Result<(), Failure> {
     let plant = Plant {
         states: size.states,
         arrows: zeros.get(..size.arrows.saturating_mul(3)).unwrap_or(zeros),
@@ -220,7 +222,7 @@ fn compare_size(heap: Global, size: Size, zeros: &[u16], room: &mut [u16]) -> an
     compare_follow(heap, plant, memory.as_slice(), 0, size.refusal)
 }
 
-fn compare_sizes(rt: &HostRuntime, room: &mut [u16]) -> anyhow::Result<()> {
+fn compare_sizes(rt: &HostRuntime, room: &mut [u16]) -> Result<(), Failure> {
     let zeros = [0u16; 3_075];
     for size in sizes() {
         println!(rt; "{size}")?;
@@ -230,7 +232,7 @@ fn compare_sizes(rt: &HostRuntime, room: &mut [u16]) -> anyhow::Result<()> {
 }
 
 // Prints each case before it is compared, so that the last one printed is the one that fails.
-pub fn compare_cases(rt: &HostRuntime, room: &mut [u16]) -> anyhow::Result<()> {
+pub fn compare_cases(rt: &HostRuntime, room: &mut [u16]) -> Result<(), Failure> {
     compare_table(rt, room)?;
     for states in [2, 3, 4, 32] {
         compare_odometer(rt, states, room)?;

@@ -4,6 +4,7 @@
 mod calls;
 mod cases;
 mod counts;
+mod failure;
 mod lassos;
 mod refusals;
 mod rooms;
@@ -11,11 +12,12 @@ mod runs;
 mod verdicts;
 mod words;
 
-use anyhow::ensure;
+use anyhow::anyhow;
 use bare::Plant;
 use calls::Call;
 use cases::compare_cases;
 use counts::Tally;
+use failure::Failure;
 use random::Random;
 use refusals::{compare_follow, compare_judge, follow_refusal, judge_refusal};
 use rooms::first_part;
@@ -36,11 +38,12 @@ fn compare_answers(
     plant: Plant,
     room: &mut [u16],
     tally: &mut Tally,
-) -> anyhow::Result<()> {
+) -> Result<(), Failure> {
     let runs = Runs::of(heap, plant)?;
     let mut memory = vec![in heap; 0; 2 * usize::from(plant.states)]?;
     compare_words(&runs, memory.as_mut_slice(), tally)?;
-    compare_verdict(&runs, room, tally)
+    compare_verdict(&runs, room, tally)?;
+    Ok(())
 }
 
 // Compares what the entries refuse.
@@ -49,7 +52,7 @@ fn compare_refusals(
     call: &Call,
     room: &mut [u16],
     tally: &mut Tally,
-) -> anyhow::Result<()> {
+) -> Result<(), Failure> {
     let memory = call.memory.as_slice();
     let turned = judge_refusal(call.plant(), room.len());
     let refused = follow_refusal(call.plant(), memory, call.sign);
@@ -60,7 +63,7 @@ fn compare_refusals(
 }
 
 // Hands on what a comparison gave, and prints the plant if it failed.
-fn explain(rt: &HostRuntime, plant: Plant, compared: anyhow::Result<()>) -> anyhow::Result<()> {
+fn explain(rt: &HostRuntime, plant: Plant, compared: Result<(), Failure>) -> Result<(), Failure> {
     if compared.is_err() {
         let states = plant.states;
         let arrows = plant.arrows;
@@ -76,7 +79,7 @@ fn compare_plant(
     random: &mut Random,
     room: &mut [u16],
     tally: &mut Tally,
-) -> anyhow::Result<()> {
+) -> Result<(), Failure> {
     let heap = rt.alloc();
     let mut call = Call::random(heap, random)?;
     let spare = random.place(3);
@@ -95,7 +98,7 @@ fn compare_plant(
     explain(rt, call.plant(), compared)
 }
 
-fn compare_plants(rt: &HostRuntime, room: &mut [u16]) -> anyhow::Result<()> {
+fn compare_plants(rt: &HostRuntime, room: &mut [u16]) -> Result<(), Failure> {
     let mut random = Random::default();
     let mut tally = Tally::new();
     for _ in 0..PLANTS {
@@ -103,14 +106,13 @@ fn compare_plants(rt: &HostRuntime, room: &mut [u16]) -> anyhow::Result<()> {
     }
     println!(rt; "random plants: {PLANTS}")?;
     print!(rt; "{tally}")?;
-    ensure!(
-        tally.is_mostly_settled(),
-        "not even half of the words are settled"
-    );
+    if !tally.is_mostly_settled() {
+        return Err(anyhow!("not even half of the words are settled").into());
+    }
     Ok(())
 }
 
-fn run(rt: &HostRuntime) -> anyhow::Result<()> {
+fn run(rt: &HostRuntime) -> Result<(), Failure> {
     let mut room = vec![in rt.alloc(); 0u16; ROOM]?;
     compare_cases(rt, room.as_mut_slice())?;
     compare_plants(rt, room.as_mut_slice())
@@ -119,8 +121,8 @@ fn run(rt: &HostRuntime) -> anyhow::Result<()> {
 fn main(rt: HostRuntime) -> ExitCode {
     match run(&rt) {
         Ok(()) => ExitCode::SUCCESS,
-        Err(error) => {
-            let _ = println!(rt; "{error}");
+        Err(failure) => {
+            let _ = failure.print(&rt);
             ExitCode::FAILURE
         }
     }

@@ -1,4 +1,5 @@
 // Which rule turns a call away, and what the entries refuse.
+use crate::failure::Failure;
 use crate::rooms::least_room;
 use anyhow::ensure;
 use bare::{Plant, fill, is_unchanged};
@@ -82,6 +83,27 @@ pub fn compare_judge(plant: Plant, room: &mut [u16], expected: Option<Rule>) -> 
     Ok(())
 }
 
+// As `compare_follow`, where `follow` is lent the copy of the memory.
+fn compare_copy(
+    plant: Plant,
+    memory: &[u8],
+    copy: &mut [u8],
+    sign: u64,
+    expected: Option<Rule>,
+) -> anyhow::Result<()> {
+    let expected = expected.map(|rule| rule as u64);
+    let came = follow(plant.into(), copy, sign).err().map(Refusal::number);
+    ensure!(
+        came == expected,
+        "follow refuses by {came:?}, but expected refusal {expected:?}"
+    );
+    ensure!(
+        came.is_none() || *copy == *memory,
+        "follow changes the memory at refusal {came:?}"
+    );
+    Ok(())
+}
+
 // Whether `follow` refuses the call by that rule, if by any, and leaves the memory as it was if it does.
 pub fn compare_follow(
     heap: Global,
@@ -89,19 +111,8 @@ pub fn compare_follow(
     memory: &[u8],
     sign: u64,
     expected: Option<Rule>,
-) -> anyhow::Result<()> {
-    let expected = expected.map(|rule| rule as u64);
-    let mut after = memory.to_vec(heap)?;
-    let came = follow(plant.into(), after.as_mut_slice(), sign)
-        .err()
-        .map(Refusal::number);
-    ensure!(
-        came == expected,
-        "follow refuses by {came:?}, but expected refusal {expected:?}"
-    );
-    ensure!(
-        came.is_none() || after.as_slice() == memory,
-        "follow changes the memory at refusal {came:?}"
-    );
+) -> Result<(), Failure> {
+    let mut copy = memory.to_vec(heap)?;
+    compare_copy(plant, memory, copy.as_mut_slice(), sign, expected)?;
     Ok(())
 }

@@ -51,20 +51,22 @@ fn compare_row(
     memory: &mut [u8],
     tally: &mut Tally,
 ) -> anyhow::Result<()> {
-    let followed = follow_row(runs.plant, row.parts(), memory);
+    let Ok(said) = follow_row(runs.plant, row.parts(), memory) else {
+        bail!("follow refuses after the signs {row}, but expected a word");
+    };
     let Some(marks) = marked_ends(memory) else {
         bail!("follow leaves a mark that is neither 0 nor 1 after the signs {row}");
     };
     let word = word_of(marks);
     ensure!(
-        followed == Ok(word),
-        "follow says another word than the marks after the signs {row}"
+        said == word,
+        "follow says {said} after the signs {row}, but expected what it marks, {word}"
     );
     let settled = runs.settle(row);
     let ends = runs.ends(row);
     ensure!(
         agrees(marks.good, ends.good, settled) && agrees(marks.bad, ends.bad, settled),
-        "wrong marks after the signs {row}, settled {settled}"
+        "wrong marks where follow says {said} after the signs {row}, settled {settled}"
     );
     tally.add_word(word, settled);
     Ok(())
