@@ -1,6 +1,5 @@
-use Rattle.std.proofs.Common.{length}
 use Rattle.diagnosability.proofs.Rooms.{enough}
 use Rattle.diagnosability.proofs.entry.judge.Goals as goal
 
 pub decide-requires : goal.decide-requires
-decide-requires c = simp c.new.ensures.0 (enough c.args.numbers.states c.args.numbers.arrows.now c.args.numbers.events.now (length c.args.room.now) c.in_ok-check.ensures)
+decide-requires c = simp c.new.ensures.0 (enough _ _ _ _ c.in_ok-check.ensures)

@@ -8,13 +8,13 @@ use Rattle.labelling.proofs.entry.label.Goals as goal
 pub invariant_of-trials : goal.invariant_of-trials
 invariant_of-trials c =
     let n = c.args.numbers in
-    let fit = tried n.states n.arrows.now n.events.now (length c.args.signs.now) (nothing _ c.in_ok-check.ensures) in
+    let fit = tried _ _ _ _ (nothing _ c.in_ok-check.ensures) in
     record { few = fit.1; valid = fit.2 }
 
 pub write-requires : goal.write-requires
 write-requires c =
     let n = c.args.numbers in
-    let fit = tried n.states n.arrows.now n.events.now (length c.args.signs.now) (nothing _ c.in_ok-check.ensures) in
+    let fit = tried _ _ _ _ (nothing _ c.in_ok-check.ensures) in
     omega (arith, fit.0, fit.1)
 
 pub returns : goal.returns

@@ -11,7 +11,7 @@ use Rattle.sensors.proofs.entry.choose.Goals as goal
 pub invariant_of-selection : goal.invariant_of-selection
 invariant_of-selection c =
     let n = c.args.numbers in
-    record { fit = (selected n.states n.arrows.now n.events.now c.args.candidates.now c.args.prices.now (length c.args.marks.now) (nothing _ c.in_ok-check.ensures)).1 }
+    record { fit = (selected _ _ _ _ _ _ (nothing _ c.in_ok-check.ensures)).1 }
 
 pub returns : goal.returns
 returns c =
