@@ -76,7 +76,8 @@ impl Drawing {
     pub fn arrow_numbers(&self, heap: Global) -> Result<Vec<u16>, AllocError>
         ensures { IfOk result (λ v. v.items ≡ arrow_numbers (drawn self.now)) }
     {
-        self.arrows()
+        let arrows = self.arrows();
+        arrows
             .iter()
             .copied()
             .flat_map(Arrow::numbers)
@@ -87,7 +88,8 @@ impl Drawing {
     pub fn event_numbers(&self, heap: Global) -> Result<Vec<u16>, AllocError>
         ensures { IfOk result (λ v. v.items ≡ event_numbers (drawn self.now)) }
     {
-        self.events()
+        let events = self.events();
+        events
             .iter()
             .copied()
             .flat_map(Event::numbers)
