@@ -5,6 +5,14 @@ use Rattle.std.proofs.lemmas.Iterator.Consumers.{YieldsList-at, YieldsList-from_
 use Rattle.sensors.proofs.Counting.{marked, marked_sum, cost_small}
 use Rattle.sensors.proofs.subsets.total.Goals as goal
 
+pub returns : goal.returns
+returns c =
+    let zipped = YieldsList-from_zip {s = c.zip.result} (YieldsList-from_slice c.args.prices.now (cc)) (YieldsList-from_slice c.args.marks.now (cc)) in
+    sum_from_yields_List _ c.sum.result c.sum.ensures.ran
+    (YieldsList-from_map _ (λ (p : ℕ × ℕ). p.0)
+    (YieldsList-at c.map.ensures.source (YieldsList-from_filter _ (λ (p : ℕ × ℕ). eqb p.1 1) (YieldsList-at c.filter.ensures.source zipped) c.filter.ensures.closure (λ x b q k. search (rules, tests)))) c.map.ensures.closure (λ x r q k. search rules))
+    ∙ marked_sum c.args.prices.now c.args.marks.now
+
 pub sum-requires-clause-fits : goal.sum-requires-clause-fits
 sum-requires-clause-fits c =
     let zipped = YieldsList-from_zip {s = c.zip.result} (YieldsList-from_slice c.args.prices.now (cc)) (YieldsList-from_slice c.args.marks.now (cc)) in
@@ -14,11 +22,3 @@ sum-requires-clause-fits c =
     (YieldsList-from_map _ (λ (p : ℕ × ℕ). p.0)
     (YieldsList-at c.map.ensures.source (YieldsList-from_filter _ (λ (p : ℕ × ℕ). eqb p.1 1) (YieldsList-at c.filter.ensures.source zipped) c.filter.ensures.closure (λ x b q k. search (rules, tests)))) c.map.ensures.closure (λ x r q k. search rules))
     bound
-
-pub returns : goal.returns
-returns c =
-    let zipped = YieldsList-from_zip {s = c.zip.result} (YieldsList-from_slice c.args.prices.now (cc)) (YieldsList-from_slice c.args.marks.now (cc)) in
-    sum_from_yields_List _ c.sum.result c.sum.ensures.ran
-    (YieldsList-from_map _ (λ (p : ℕ × ℕ). p.0)
-    (YieldsList-at c.map.ensures.source (YieldsList-from_filter _ (λ (p : ℕ × ℕ). eqb p.1 1) (YieldsList-at c.filter.ensures.source zipped) c.filter.ensures.closure (λ x b q k. search (rules, tests)))) c.map.ensures.closure (λ x r q k. search rules))
-    ∙ marked_sum c.args.prices.now c.args.marks.now
